@@ -1,0 +1,108 @@
+// A source of records.
+ghost use Rattle.std.specs.Prelude.{◌≡◌, ◌≤◌, length, [], ◌∷◌, MatchResult, IfOk, OnErr, true, false, if◌then◌else◌};
+ghost use Rattle.csv.specs.Reading.{strip_bom};
+ghost use Rattle.csv.specs.Records.{fields_of};
+ghost use Rattle.halo_records.specs.Left.{Going, IsReadError, left_of};
+ghost use Rattle.halo_records.specs.Table.{records_of};
+
+use csv::{ByteRecord, ErrorKind, Reader, ReaderBuilder};
+use std::alloc::Global;
+use std::marker::Model;
+
+#[derive(Clone, Copy, Debug, PartialEq, Eq)]
+pub struct Memory;
+
+/// The records of some bytes that are left to be read. After `Memory` none is left.
+#[derive(Drop)]
+pub struct Records<'a> {
+    reader: Reader<&'a [u8]>,
+    done: bool,
+}
+
+impl<'a> Model for Records<'a> {
+    ghost use Rattle.std.specs.Prelude.{◌≡◌, ℕ, List, [], false, if◌then◌else◌};
+    ghost use Rattle.halo_records.specs.Left.{Going, IsReadError, left_of};
+
+    ghost Value = { List (List (List ℕ)) };
+
+    ghost view = { λ s. if s.done then [] else left_of s.reader };
+
+    ghost invariant = { λ s. s.done ≡ false → Going s.reader };
+}
+
+// The bytes behind one byte-order mark.
+#[tactic(auto, unfolding(csv::specs::Reading::strip_bom))]
+fn without_mark(bytes: &[u8]) -> &[u8]
+    ensures { result.now ≡ strip_bom bytes.now }
+{
+    match bytes {
+        [0xEF, 0xBB, 0xBF, rest @ ..] => rest,
+        _ => bytes,
+    }
+}
+
+// The next record of a reader.
+fn advance(reader: &mut Reader<&[u8]>, row: &mut ByteRecord) -> Result<bool, Memory>
+    requires { Going reader.old }
+    ensures more { IfOk result (λ found. found ≡ true → Going reader.new × (left_of reader.old ≡ fields_of row.new ∷ left_of reader.new)) }
+    ensures end { IfOk result (λ found. found ≡ false → left_of reader.old ≡ []) }
+{
+    match reader.read_byte_record(row) {
+        Ok(found) => Ok(found),
+        Err(e) => {
+            only_memory(e.kind());
+            Err(Memory)
+        }
+    }
+}
+
+// Over bytes that are read with records of any length, csv answers no error but these two.
+fn only_memory(kind: &ErrorKind)
+    requires { IsReadError kind.now }
+{
+    match kind {
+        ErrorKind::Io(_) => {}
+        ErrorKind::OutOfMemory => {}
+        _ => unreachable!(),
+    }
+}
+
+impl<'a> Records<'a> {
+    #[tactic(auto, using(crate::proofs::Fuel::few_records))]
+    pub fn new(alloc: Global, bytes: &'a [u8]) -> Records<'a>
+        ensures all { result ≡ records_of bytes.now }
+        ensures few { length result ≤ length bytes.now }
+    {
+        let reader = ReaderBuilder::new()
+            .has_headers(false)
+            .flexible(true)
+            .from_reader(alloc, without_mark(bytes));
+        Records {
+            reader,
+            done: false,
+        }
+    }
+
+    /// The next record, into `row`; false where there is none.
+    pub fn next(&mut self, row: &mut ByteRecord) -> Result<bool, Memory>
+        ensures more { IfOk result (λ found. found ≡ true → self.old ≡ fields_of row.new ∷ self.new) }
+        ensures end { IfOk result (λ found. found ≡ false → (self.old ≡ []) × (self.new ≡ [])) }
+        ensures memory { OnErr result (self.new ≡ []) }
+    {
+        if self.done {
+            row.clear();
+            return Ok(false);
+        }
+        match advance(&mut self.reader, row) {
+            Ok(true) => Ok(true),
+            Ok(false) => {
+                self.done = true;
+                Ok(false)
+            }
+            Err(_) => {
+                self.done = true;
+                Err(Memory)
+            }
+        }
+    }
+}
