@@ -4,7 +4,7 @@ use Rattle.std.specs.Prelude.{All}
 use Rattle.std.proofs.lemmas.List.Elements.{All-get_or, All-more}
 use Rattle.std.proofs.lemmas.Int.Digits.{digits_value_more}
 use Rattle.std.proofs.lemmas.Str.{digit_value_digit}
-use Rattle.halo_text.specs.Words.{IsDigit, number}
+use Rattle.halo_text.specs.Number.{IsDigit, number}
 
 -- the number with one digit more
 pub number_more : (text : List ℕ) (i : ℕ) → i < length text → IsDigit (get_or text i 0) → number (take (i + 1) text) + 48 ≡ number (take i text) * 10 + get_or text i 0

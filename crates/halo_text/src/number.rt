@@ -1,16 +1,23 @@
-// Numbers of ASCII digits.
-ghost use Rattle.std.specs.Prelude.{◌≡◌, ◌≤◌, ℕ};
-ghost use Rattle.halo_text.specs.Words.{ReadsNumber};
+// Numbers.
+ghost use Rattle.std.specs.Prelude.{◌≤◌};
+ghost use Rattle.halo_text.specs.Number.{ReadsNumber};
 
+/// Why a text gives no number.
 #[derive(Clone, Copy, Debug, PartialEq, Eq)]
 pub enum NumberFault {
+    /// It is empty, or a byte of it is no ASCII digit.
     NotNumber,
+    /// All its bytes are digits, and the number that they write is above the limit.
     Above,
 }
 
-/// The number that the digits write, where it is at most `limit`.
+/// The whole number that ASCII digits write in base ten, where it is at most `limit`.
+///
+/// There may be any number of digits, and leading zeros count for nothing. A text that is
+/// no number is told as [`NumberFault::NotNumber`] also where its first digits alone are
+/// above the limit. The limit is at most 10^18, so that ten times it and a digit fit.
 #[tactic(auto, using(crate::proofs::Digits::number_more, crate::proofs::Digits::all_more, crate::proofs::Digits::not_all))]
-pub fn read_number(text: &[u8], limit: u64) -> Result<u64, NumberFault>
+pub fn number_up_to(text: &[u8], limit: u64) -> Result<u64, NumberFault>
     requires { limit ≤ 1000000000000000000 }
     ensures { ReadsNumber text.now limit result }
 {
@@ -23,8 +30,9 @@ pub fn read_number(text: &[u8], limit: u64) -> Result<u64, NumberFault>
         if !byte.is_ascii_digit() {
             return Err(NumberFault::NotNumber);
         }
+        // Once above the limit the value stays there, so only the digits are looked at.
         if !above {
-            value = value * 10 + (*byte - b'0') as u64;
+            value = value * 10 + u64::from(*byte - b'0');
             above = value > limit;
         }
     }

@@ -1,7 +1,7 @@
 use Rattle.std.proofs.Common.{◌≡◌, ◌<◌, ◌≤◌, take, true, false}
 use Rattle.std.specs.Prelude.{All}
-use Rattle.halo_text.specs.Words.{IsDigit, number}
-use Rattle.halo_text.proofs.number.read_number.Given as goal
+use Rattle.halo_text.specs.Number.{IsDigit, number}
+use Rattle.halo_text.proofs.number.number_up_to.Given as goal
 
 abbrev pub invariant-loop-byte : goal.invariant-loop-byte
 invariant-loop-byte l = All IsDigit (take l.byte-index l.text)

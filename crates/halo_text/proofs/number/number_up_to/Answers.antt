@@ -1,9 +1,9 @@
 use Rattle.std.proofs.Common.{rules, arith, get_or, sym, ◌∙◌}
 use borrow.Author.Tests.{ltb-true, ltb-false}
-use Rattle.halo_text.specs.Words.{IsDigit}
+use Rattle.halo_text.specs.Number.{IsDigit}
 use Rattle.halo_text.proofs.Digits.{number_more, all_more}
-use Rattle.halo_text.proofs.number.read_number.Goals as goal
-use Rattle.halo_text.proofs.number.read_number.Goals.{then-not-above, else-not-above}
+use Rattle.halo_text.proofs.number.number_up_to.Goals as goal
+use Rattle.halo_text.proofs.number.number_up_to.Goals.{then-not-above, else-not-above}
 
 pub loop-byte-preserved : goal.loop-byte-preserved
 loop-byte-preserved c =
