@@ -8,7 +8,7 @@ use Rattle.csv.specs.declared.parser.State.TheVariants as st
 use Rattle.csv.specs.declared.parser.Action.{Action}
 use Rattle.csv.specs.declared.parser.Action.TheVariants as act
 use Rattle.halo_records.specs.Left.{rest_of}
-use Rattle.halo_records.specs.Table.{records_of}
+use Rattle.halo_records.specs.Records.{records_of}
 
 -- if the action ends the record, the machine is between two
 abbrev Between : State × Action → Type 0

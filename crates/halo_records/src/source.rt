@@ -2,17 +2,20 @@
 ghost use Rattle.std.specs.Prelude.{◌≡◌, ◌≤◌, length, [], ◌∷◌, MatchResult, IfOk, OnErr, true, false, if◌then◌else◌};
 ghost use Rattle.csv.specs.Reading.{strip_bom};
 ghost use Rattle.csv.specs.Records.{fields_of};
-ghost use Rattle.halo_records.specs.Left.{Going, IsReadError, left_of};
-ghost use Rattle.halo_records.specs.Table.{records_of};
+ghost use Rattle.halo_records.specs.Left.{IsGoing, IsReadError, left_of};
+ghost use Rattle.halo_records.specs.Records.{records_of};
 
 use csv::{ByteRecord, ErrorKind, Reader, ReaderBuilder};
 use std::alloc::Global;
 use std::marker::Model;
 
+/// There was not enough memory. Reading from a slice cannot fail, but `csv`'s contract does not
+/// rule out an error of the reader below it, and such an error is answered as this one too.
 #[derive(Clone, Copy, Debug, PartialEq, Eq)]
 pub struct Memory;
 
-/// The records of some bytes that are left to be read. After `Memory` none is left.
+/// The records of a file's bytes that are still to be read, seen as the list of these records,
+/// each the list of its fields, each the list of its bytes.
 #[derive(Drop)]
 pub struct Records<'a> {
     reader: Reader<&'a [u8]>,
@@ -21,16 +24,16 @@ pub struct Records<'a> {
 
 impl<'a> Model for Records<'a> {
     ghost use Rattle.std.specs.Prelude.{◌≡◌, ℕ, List, [], false, if◌then◌else◌};
-    ghost use Rattle.halo_records.specs.Left.{Going, IsReadError, left_of};
+    ghost use Rattle.halo_records.specs.Left.{IsGoing, IsReadError, left_of};
 
     ghost Value = { List (List (List ℕ)) };
 
     ghost view = { λ s. if s.done then [] else left_of s.reader };
 
-    ghost invariant = { λ s. s.done ≡ false → Going s.reader };
+    ghost invariant = { λ s. s.done ≡ false → IsGoing s.reader };
 }
 
-// The bytes behind one byte-order mark.
+// The bytes behind one byte-order mark, if they begin with one.
 #[tactic(auto, unfolding(csv::specs::Reading::strip_bom))]
 fn without_mark(bytes: &[u8]) -> &[u8]
     ensures { result.now ≡ strip_bom bytes.now }
@@ -41,10 +44,10 @@ fn without_mark(bytes: &[u8]) -> &[u8]
     }
 }
 
-// The next record of a reader.
+// Reads the next record of a reader that stands between two.
 fn advance(reader: &mut Reader<&[u8]>, row: &mut ByteRecord) -> Result<bool, Memory>
-    requires { Going reader.old }
-    ensures more { IfOk result (λ found. found ≡ true → Going reader.new × (left_of reader.old ≡ fields_of row.new ∷ left_of reader.new)) }
+    requires { IsGoing reader.old }
+    ensures more { IfOk result (λ found. found ≡ true → IsGoing reader.new × (left_of reader.old ≡ fields_of row.new ∷ left_of reader.new)) }
     ensures end { IfOk result (λ found. found ≡ false → left_of reader.old ≡ []) }
 {
     match reader.read_byte_record(row) {
@@ -56,7 +59,7 @@ fn advance(reader: &mut Reader<&[u8]>, row: &mut ByteRecord) -> Result<bool, Mem
     }
 }
 
-// Over bytes that are read with records of any length, csv answers no error but these two.
+// Where records may have any length, reading bytes gives no error of csv but these two.
 fn only_memory(kind: &ErrorKind)
     requires { IsReadError kind.now }
 {
@@ -68,6 +71,8 @@ fn only_memory(kind: &ErrorKind)
 }
 
 impl<'a> Records<'a> {
+    /// All the records of a file. Each takes at least one byte, so there are no more records
+    /// than bytes. Nothing is read yet, and it takes no memory.
     #[tactic(auto, using(crate::proofs::Fuel::few_records))]
     pub fn new(alloc: Global, bytes: &'a [u8]) -> Records<'a>
         ensures all { result ≡ records_of bytes.now }
@@ -83,7 +88,8 @@ impl<'a> Records<'a> {
         }
     }
 
-    /// The next record, into `row`; false where there is none.
+    /// Reads the next record into `row`, or answers false where there is none left. After an
+    /// error none is left.
     pub fn next(&mut self, row: &mut ByteRecord) -> Result<bool, Memory>
         ensures more { IfOk result (λ found. found ≡ true → self.old ≡ fields_of row.new ∷ self.new) }
         ensures end { IfOk result (λ found. found ≡ false → (self.old ≡ []) × (self.new ≡ [])) }
