@@ -1,17 +1,12 @@
--- What a load of a whole file answers, where the file is told.
-use Rattle.std.specs.Prelude.{◌≡◌, ℕ, ◌<◌, List, ◌++◌, drop, length, ⊤, Option, None, Some, Result, Ok, Err}
+-- Loading a whole file.
+use Rattle.std.specs.Prelude.{◌≡◌, ℕ, ◌<◌, List, length, ⊤, Result, Ok, Err}
 use Rattle.std.specs.Global.{Vec}
 use Rattle.halo_io.specs.declared.loading.LoadFault.{LoadFault}
-use Rattle.halo_io.specs.declared.loading.LoadFault.TheVariants as f
+use Rattle.halo_io.specs.declared.loading.LoadFault.TheVariants as fault
 
--- all its bytes where it has at most `limit`, and `TooLong` only where it has more
+-- a load answers with all the bytes of the file, and `TooLong` only where they are more than the limit
 abbrev pub Loads : List ℕ → ℕ → Result (Vec ℕ) LoadFault → Type 0
-Loads file limit (Ok v) = v.items ≡ file
-Loads file limit (Err f.TooLong) = limit < length file
-Loads file limit (Err f.Read) = ⊤
-Loads file limit (Err f.Memory) = ⊤
-
--- where the file is told, it begins with these bytes
-abbrev pub Front : Option (List ℕ) → List ℕ → Type 0
-Front None bytes = ⊤
-Front (Some file) bytes = bytes ++ drop (length bytes) file ≡ file
+Loads file limit (Ok bytes) = bytes.items ≡ file
+Loads file limit (Err fault.TooLong) = limit < length file
+Loads file limit (Err fault.Read) = ⊤
+Loads file limit (Err fault.Memory) = ⊤

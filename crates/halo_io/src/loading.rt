@@ -1,24 +1,34 @@
-// Reading a whole file and writing a whole text.
-ghost use Rattle.std.specs.Prelude.{◌≡◌, ◌≤◌, ◌<◌, ℕ, List, vec_len, IfOk, IfSome, OnOk, OnErr, IsErrOf};
-ghost use Rattle.halo_io.specs.Counts.{AppendsTold, Rose, TookPrefix};
+ghost use Rattle.std.specs.Prelude.{◌≡◌, ◌≤◌, ℕ, List, vec_len, IfOk, IfSome, IsErrOf};
+ghost use Rattle.halo_io.specs.Counts.{Rose};
 ghost use Rattle.halo_io.specs.Load.{Loads};
 
-use crate::shelf::{Failed, Shelf};
-use crate::sink::Sink;
+use crate::Shelf;
 use std::alloc::Global;
 use thiserror::Error;
 
+// How many bytes a read asks for.
+const PIECE: usize = 4096;
+
+/// Why a file was not loaded.
 #[derive(Clone, Copy, Debug, PartialEq, Eq, Error)]
 pub enum LoadFault {
-    #[error("the read failed")]
+    /// A read failed.
+    #[error("a read failed")]
     Read,
+    /// The file has more bytes than the limit.
     #[error("the file is too long")]
     TooLong,
+    /// There was no memory for the bytes.
     #[error("out of memory")]
     Memory,
 }
 
-/// All the bytes of a file, which has at most `limit`.
+/// All the bytes of the file `name`, at most `limit` of them.
+///
+/// It reads until a read gives no byte, or more than `limit` bytes were read; so each turn of its
+/// loop takes at least one byte or ends. It answers `Read` only where the shelf's count of this
+/// file rose in the call. Where the shelf tells the file, and the answer is neither `Read` nor
+/// `Memory`, it is `TooLong` exactly where the file has more than `limit` bytes.
 pub fn load<S: Shelf>(
     alloc: Global,
     shelf: &mut S,
@@ -28,22 +38,19 @@ pub fn load<S: Shelf>(
     requires { limit ≤ 16777216 }
     ensures same { (n : List ℕ) → S.file shelf.new n ≡ S.file shelf.old n }
     ensures later { (n : List ℕ) → S.faults shelf.old n ≤ S.faults shelf.new n }
-    ensures within { IfOk result (λ v. vec_len v ≤ limit) }
+    ensures within { IfOk result (λ bytes. vec_len bytes ≤ limit) }
     ensures told { IfSome (S.file shelf.old name.now) (λ file. Loads file limit result) }
     ensures cause { IsErrOf result LoadFault.Read → Rose (S.faults shelf.old name.now) (S.faults shelf.new name.now) }
 {
     let mut bytes = Vec::new(alloc);
-    let mut piece = [0u8; 4096];
+    let mut piece = [0u8; PIECE];
     'reads: while bytes.len() <= limit {
-        let left = limit + 1 - bytes.len();
-        let want = if left < 4096 { left } else { 4096 };
-        let place = bytes.len() as u64;
-        match shelf.read_at(name, place, &mut piece[..want]) {
+        let want = PIECE.min(limit + 1 - bytes.len());
+        let at = bytes.len() as u64;
+        match shelf.read_at(name, at, &mut piece[..want]) {
             Err(_) => return Err(LoadFault::Read),
+            Ok(0) => return Ok(bytes),
             Ok(count) => {
-                if count == 0 {
-                    return Ok(bytes);
-                }
                 if bytes.extend_from_slice(&piece[..count]).is_err() {
                     return Err(LoadFault::Memory);
                 }
@@ -51,21 +58,4 @@ pub fn load<S: Shelf>(
         }
     }
     Err(LoadFault::TooLong)
-}
-
-/// Writes all the bytes.
-pub fn put_all<K: Sink>(sink: &mut K, bytes: &[u8]) -> Result<(), Failed>
-    ensures later { K.faults sink.old ≤ K.faults sink.new }
-    ensures all { OnOk result (AppendsTold (K.taken sink.old) (K.taken sink.new) bytes.now) }
-    ensures part { OnErr result (TookPrefix (K.taken sink.old) (K.taken sink.new) bytes.now) }
-    ensures cause { OnErr result (Rose (K.faults sink.old) (K.faults sink.new)) }
-{
-    let mut done = 0;
-    'writes: while done < bytes.len() {
-        match sink.write(&bytes[done..]) {
-            Err(e) => return Err(e),
-            Ok(count) => done += count,
-        }
-    }
-    Ok(())
 }

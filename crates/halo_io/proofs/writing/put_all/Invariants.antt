@@ -1,6 +1,6 @@
 use Rattle.std.proofs.Common.{length, ◌-◌, ◌≤◌, take}
-use Rattle.halo_io.specs.Counts.{AppendsTold}
-use Rattle.halo_io.proofs.loading.put_all.Given as goal
+use Rattle.halo_io.specs.Told.{AppendsTold}
+use Rattle.halo_io.proofs.writing.put_all.Given as goal
 
 abbrev pub invariant-writes : goal.invariant-writes
 invariant-writes g l = (l.done ≤ length l.bytes) × (g.K.Sink.faults l.initial.sink ≤ g.K.Sink.faults l.sink)
