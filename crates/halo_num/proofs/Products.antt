@@ -1,0 +1,89 @@
+-- Products of ends that are not negative: what they enclose, how wide they are.
+use Rattle.std.proofs.Common.{ℕ, ◌+◌, ◌*◌, ◌^◌, ◌<◌, ◌≤◌, ℤ, pos, negsuc, ◌+ℤ◌, ◌*ℤ◌, ◌≤ℤ◌, arith}
+use Rattle.std.proofs.lemmas.Int.{ints}
+use Rattle.std.proofs.lemmas.Nat.{mul-le}
+use Rattle.std.proofs.Math.Nat.{mul-le-mul_left, mul-le-mul_right, le_of_mul-le-mul_right}
+use Rattle.halo_num.specs.Ends.{Ends, fine}
+use Rattle.halo_num.specs.Rounding.{IsFloor, IsCeiling}
+use Rattle.halo_num.specs.Enclosure.{Encloses}
+use Rattle.halo_num.proofs.Laws.{not_negative}
+
+-- the lower end of a product, over naturals
+product_low : (r a b n m d e : ℕ) → r * 10 ^ 18 ≤ a * b → a * d ≤ n * 10 ^ 18 → b * e ≤ m * 10 ^ 18 → r * (d * e) ≤ n * m * 10 ^ 18
+product_low r a b n m d e h p q =
+    let s : (a * d) * (b * e) ≤ (n * 10 ^ 18) * (m * 10 ^ 18) = mul-le (a * d) (b * e) (n * 10 ^ 18) (m * 10 ^ 18) p q
+    in let t : (r * 10 ^ 18) * (d * e) ≤ (a * b) * (d * e) = mul-le-mul_right (d * e) h
+    in let u : r * (d * e) * 10 ^ 18 ≤ n * m * 10 ^ 18 * 10 ^ 18 = omega arith
+    in le_of_mul-le-mul_right u (omega arith)
+
+-- the upper end of a product, over naturals
+product_high : (r a b n m d e : ℕ) → a * b ≤ r * 10 ^ 18 → n * 10 ^ 18 ≤ a * d → m * 10 ^ 18 ≤ b * e → n * m * 10 ^ 18 ≤ r * (d * e)
+product_high r a b n m d e h p q =
+    let s : (n * 10 ^ 18) * (m * 10 ^ 18) ≤ (a * d) * (b * e) = mul-le (n * 10 ^ 18) (m * 10 ^ 18) (a * d) (b * e) p q
+    in let t : (a * b) * (d * e) ≤ (r * 10 ^ 18) * (d * e) = mul-le-mul_right (d * e) h
+    in let u : n * m * 10 ^ 18 * 10 ^ 18 ≤ r * (d * e) * 10 ^ 18 = omega arith
+    in le_of_mul-le-mul_right u (omega arith)
+
+-- a product rounded down is below the product of the fractions
+pub mul_low : (r a b n m : ℤ) (d e : ℕ) → pos 0 ≤ℤ r → pos 0 ≤ℤ a → pos 0 ≤ℤ b → (r *ℤ pos fine) ≤ℤ (a *ℤ b) → (a *ℤ pos d) ≤ℤ (n *ℤ pos fine) → (b *ℤ pos e) ≤ℤ (m *ℤ pos fine) → (r *ℤ pos (d * e)) ≤ℤ (n *ℤ m *ℤ pos fine)
+mul_low (pos r) (pos a) (pos b) (pos n) (pos m) d e x y z h p q =
+    let k = product_low r a b n m d e (omega (arith, ints)) (omega (arith, ints)) (omega (arith, ints))
+    in omega (arith, ints)
+mul_low (negsuc r) a b n m d e x y z h p q = absurd (omega (arith, ints))
+mul_low r (negsuc a) b n m d e x y z h p q = absurd (omega (arith, ints))
+mul_low r a (negsuc b) n m d e x y z h p q = absurd (omega (arith, ints))
+mul_low r (pos a) b (negsuc n) m d e x y z h p q = absurd (omega (arith, ints))
+mul_low r a (pos b) n (negsuc m) d e x y z h p q = absurd (omega (arith, ints))
+
+-- a product rounded up is above the product of the fractions
+pub mul_high : (r a b n m : ℤ) (d e : ℕ) → pos 0 ≤ℤ r → pos 0 ≤ℤ a → pos 0 ≤ℤ b → pos 0 ≤ℤ n → pos 0 ≤ℤ m → (a *ℤ b) ≤ℤ (r *ℤ pos fine) → (n *ℤ pos fine) ≤ℤ (a *ℤ pos d) → (m *ℤ pos fine) ≤ℤ (b *ℤ pos e) → (n *ℤ m *ℤ pos fine) ≤ℤ (r *ℤ pos (d * e))
+mul_high (pos r) (pos a) (pos b) (pos n) (pos m) d e x y z v w h p q =
+    let k = product_high r a b n m d e (omega (arith, ints)) (omega (arith, ints)) (omega (arith, ints))
+    in omega (arith, ints)
+mul_high (negsuc r) a b n m d e x y z v w h p q = absurd (omega (arith, ints))
+mul_high r (negsuc a) b n m d e x y z v w h p q = absurd (omega (arith, ints))
+mul_high r a (negsuc b) n m d e x y z v w h p q = absurd (omega (arith, ints))
+mul_high r a b (negsuc n) m d e x y z v w h p q = absurd (omega (arith, ints))
+mul_high r a b n (negsuc m) d e x y z v w h p q = absurd (omega (arith, ints))
+
+-- a product of fractions that are not negative
+pub encloses_mul : (a b r : Ends) (n m : ℤ) (d e : ℕ) → pos 0 ≤ℤ a.lo → pos 0 ≤ℤ b.lo → a.lo ≤ℤ a.hi → b.lo ≤ℤ b.hi → pos 0 ≤ℤ r.lo → pos 0 ≤ℤ r.hi → IsFloor r.lo (a.lo *ℤ b.lo) (pos fine) → IsCeiling r.hi (a.hi *ℤ b.hi) (pos fine) → Encloses a n d → Encloses b m e → Encloses r (n *ℤ m) (d * e)
+encloses_mul a b r n m d e al bl ah bh rl rh f c p q =
+    record {
+      low = mul_low r.lo a.lo b.lo n m d e rl al bl f.reached p.low q.low;
+      high = mul_high r.hi a.hi b.hi n m d e rh (omega (arith, ints)) (omega (arith, ints)) (not_negative a.lo n d al p.low) (not_negative b.lo m e bl q.low) c.reached p.high q.high;
+    }
+
+-- the width of a product within 0 and 1, over naturals
+width_nat : (lo hi al ah bl bh v w : ℕ) → al * bl < lo * 10 ^ 18 + 10 ^ 18 → hi * 10 ^ 18 < ah * bh + 10 ^ 18 → ah ≤ al + v → bh ≤ bl + w → ah ≤ 10 ^ 18 → bl ≤ 10 ^ 18 → hi ≤ lo + (v + w + 1)
+width_nat lo hi al ah bl bh v w p q i j k l =
+    let m : ah * bh ≤ ah * (bl + w) = mul-le-mul_left ah j
+    in let n : ah * w ≤ 10 ^ 18 * w = mul-le-mul_right w k
+    in let o : ah * bl ≤ (al + v) * bl = mul-le-mul_right bl i
+    in let r : v * bl ≤ v * 10 ^ 18 = mul-le-mul_left v l
+    in omega arith
+
+-- a product within 0 and 1 is at most 1 wider than its factors together
+pub width_mul : (lo hi al ah bl bh : ℤ) (v w : ℕ) → pos 0 ≤ℤ lo → pos 0 ≤ℤ hi → pos 0 ≤ℤ al → pos 0 ≤ℤ bl → al ≤ℤ ah → bl ≤ℤ bh → ah ≤ℤ pos fine → bh ≤ℤ pos fine → IsFloor lo (al *ℤ bl) (pos fine) → IsCeiling hi (ah *ℤ bh) (pos fine) → ah ≤ℤ (al +ℤ pos v) → bh ≤ℤ (bl +ℤ pos w) → hi ≤ℤ (lo +ℤ pos (v + w + 1))
+width_mul (pos lo) (pos hi) (pos al) (pos ah) (pos bl) (pos bh) v w i0 i1 i2 i3 i4 i5 i6 i7 f c p q =
+    let k = width_nat lo hi al ah bl bh v w (omega (arith, ints, f.nearest)) (omega (arith, ints, c.nearest)) (omega (arith, ints)) (omega (arith, ints)) (omega (arith, ints)) (omega (arith, ints))
+    in omega (arith, ints)
+width_mul (negsuc lo) hi al ah bl bh v w i0 i1 i2 i3 i4 i5 i6 i7 f c p q = absurd (omega (arith, ints, i0))
+width_mul lo (negsuc hi) al ah bl bh v w i0 i1 i2 i3 i4 i5 i6 i7 f c p q = absurd (omega (arith, ints, i1))
+width_mul lo hi (negsuc al) ah bl bh v w i0 i1 i2 i3 i4 i5 i6 i7 f c p q = absurd (omega (arith, ints, i2))
+width_mul lo hi al ah (negsuc bl) bh v w i0 i1 i2 i3 i4 i5 i6 i7 f c p q = absurd (omega (arith, ints, i3))
+width_mul lo hi (pos al) (negsuc ah) bl bh v w i0 i1 i2 i3 i4 i5 i6 i7 f c p q = absurd (omega (arith, ints, i4))
+width_mul lo hi al ah (pos bl) (negsuc bh) v w i0 i1 i2 i3 i4 i5 i6 i7 f c p q = absurd (omega (arith, ints, i5))
+
+-- a product of parts of 1, over naturals
+one_nat : (hi ah bh : ℕ) → hi * 10 ^ 18 < ah * bh + 10 ^ 18 → ah ≤ 10 ^ 18 → bh ≤ 10 ^ 18 → hi ≤ 10 ^ 18
+one_nat hi ah bh q i j = let m : ah * bh ≤ 10 ^ 18 * 10 ^ 18 = mul-le ah bh (10 ^ 18) (10 ^ 18) i j in omega arith
+
+-- a product of parts of 1 is at most 1
+pub one_mul : (hi ah bh : ℤ) → pos 0 ≤ℤ hi → pos 0 ≤ℤ ah → pos 0 ≤ℤ bh → ah ≤ℤ pos fine → bh ≤ℤ pos fine → IsCeiling hi (ah *ℤ bh) (pos fine) → hi ≤ℤ pos fine
+one_mul (pos hi) (pos ah) (pos bh) i1 i4 i5 i6 i7 c =
+    let k = one_nat hi ah bh (omega (arith, ints, c.nearest)) (omega (arith, ints)) (omega (arith, ints))
+    in omega (arith, ints)
+one_mul (negsuc hi) ah bh i1 i4 i5 i6 i7 c = absurd (omega (arith, ints))
+one_mul hi (negsuc ah) bh i1 i4 i5 i6 i7 c = absurd (omega (arith, ints))
+one_mul hi ah (negsuc bh) i1 i4 i5 i6 i7 c = absurd (omega (arith, ints))

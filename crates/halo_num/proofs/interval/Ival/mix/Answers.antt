@@ -1,0 +1,19 @@
+use Rattle.std.proofs.Common.{rules, arith}
+use Rattle.std.proofs.lemmas.Int.{to_z-of_z}
+use Rattle.halo_num.proofs.Blends.{encloses_mix, mix_ordered}
+use Rattle.halo_num.proofs.Rounded.{floor_at}
+use Rattle.halo_num.proofs.interval.Ival.mix.Goals as goal
+
+pub returns-clause-low : goal.returns-clause-low
+returns-clause-low g c = search (rules, to_z-of_z, floor_at)
+
+pub returns-clause-high : goal.returns-clause-high
+returns-clause-high g c = grind (arith, to_z-of_z, c.greatest_blend-hi.ensures, c.ends-p_low.ensures, c.ends-a_low.ensures, c.ends-b_low.ensures)
+
+pub invariant_of-result : goal.invariant_of-result
+invariant_of-result g c =
+    mix_ordered c.args.p c.args.a c.args.b _ _ c.requires.p_in c.ends-p_low.ensures.order c.requires.a_in.low c.ends-a_low.ensures.order c.requires.b_in.low c.ends-b_low.ensures.order (returns-clause-low g c) (returns-clause-high g c)
+
+pub returns-clause-encloses : goal.returns-clause-encloses
+returns-clause-encloses g c = λ s x y d e f p q r.
+    encloses_mix c.args.p c.args.a c.args.b _ s x y d e f c.requires.p_in c.ends-p_low.ensures.order c.requires.a_in.low c.ends-a_low.ensures.order c.requires.b_in.low c.ends-b_low.ensures.order (search rules) (search rules) (returns-clause-low g c) (returns-clause-high g c) p q r

@@ -1,0 +1,39 @@
+use Rattle.std.proofs.Common.{◌*ℤ◌, ap, rules, arith, lit<}
+use Rattle.std.proofs.lemmas.Int.{ints}
+use Rattle.halo_num.specs.Ends.{Ends, fine}
+use Rattle.halo_num.proofs.Products.{encloses_mul, width_mul, one_mul}
+use Rattle.halo_num.proofs.Rounded.{ordered}
+use Rattle.halo_num.proofs.Ring.{mul_mono}
+use Rattle.halo_num.proofs.interval.Ival.mul.Goals as goal
+
+pub invariant_of-result : goal.invariant_of-result
+invariant_of-result g c =
+    let al = ap (λ (v : Ends). v.lo) c.self.view_is
+    in let ah = ap (λ (v : Ends). v.hi) c.self.view_is
+    in let bl = ap (λ (v : Ends). v.lo) c.o.view_is
+    in let bh = ap (λ (v : Ends). v.hi) c.o.view_is
+    in ordered _ _ (c.args.self.lo *ℤ c.args.o.lo) (c.args.self.hi *ℤ c.args.o.hi) fine (lit< tt) (search rules) (search rules) (mul_mono c.args.self.lo c.args.o.lo c.args.self.hi c.args.o.hi c.requires.self_from c.requires.o_from (omega (arith, ints)) (omega (arith, ints)))
+
+pub returns-clause-encloses : goal.returns-clause-encloses
+returns-clause-encloses g c = λ n m d e p q.
+    let al = ap (λ (v : Ends). v.lo) c.self.view_is
+    in let ah = ap (λ (v : Ends). v.hi) c.self.view_is
+    in let bl = ap (λ (v : Ends). v.lo) c.o.view_is
+    in let bh = ap (λ (v : Ends). v.hi) c.o.view_is
+    in encloses_mul c.args.self c.args.o _ n m d e c.requires.self_from c.requires.o_from (omega (arith, ints)) (omega (arith, ints)) (search rules) (search rules) (search rules) (search rules) p q
+
+pub returns-clause-within : goal.returns-clause-within
+returns-clause-within g c = λ x y.
+    let al = ap (λ (v : Ends). v.lo) c.self.view_is
+    in let ah = ap (λ (v : Ends). v.hi) c.self.view_is
+    in let bl = ap (λ (v : Ends). v.lo) c.o.view_is
+    in let bh = ap (λ (v : Ends). v.hi) c.o.view_is
+    in record { low = search rules; high = one_mul _ c.args.self.hi c.args.o.hi (search rules) (omega (arith, ints)) (omega (arith, ints)) x y (search rules) }
+
+pub returns-clause-narrow : goal.returns-clause-narrow
+returns-clause-narrow g c = λ v w x y p q.
+    let al = ap (λ (v : Ends). v.lo) c.self.view_is
+    in let ah = ap (λ (v : Ends). v.hi) c.self.view_is
+    in let bl = ap (λ (v : Ends). v.lo) c.o.view_is
+    in let bh = ap (λ (v : Ends). v.hi) c.o.view_is
+    in record { near = width_mul _ _ c.args.self.lo c.args.self.hi c.args.o.lo c.args.o.hi v w (search rules) (search rules) c.requires.self_from c.requires.o_from (omega (arith, ints)) (omega (arith, ints)) x y (search rules) (search rules) p.near q.near }

@@ -1,0 +1,231 @@
+ghost use Rattle.std.specs.Prelude.{◌≡◌, ℕ, ◌+◌, ◌-◌, ◌*◌, ◌/◌, ◌^◌, ◌≤◌, ℤ, pos, ◌+ℤ◌, ◌-ℤ◌, ◌*ℤ◌, ◌≤ℤ◌, neg_ℤ};
+ghost use Rattle.std.specs.Int.{int_min, int_max};
+ghost use Rattle.halo_num.specs.Ends.{fine, printed, IsWithin, IsSized, HasWidth};
+ghost use Rattle.halo_num.specs.Rounding.{IsFloor, IsCeiling};
+ghost use Rattle.halo_num.specs.Enclosure.{Encloses, EnclosesPrinted};
+ghost use Rattle.halo_num.specs.Blend.{blend};
+
+use crate::mixing::{greatest_blend, least_blend};
+use crate::nano::Nano;
+use crate::rounding::{
+    printed_down, printed_up, product_down, product_up, quotient_down, quotient_up, ratio_down,
+    ratio_up,
+};
+use crate::steps::Steps;
+use std::marker::Model;
+use std::sync::ledger::Ledger;
+
+/// An interval of fine units, 10^-18 each: a lower end and an upper end that is not below it.
+///
+/// It encloses an exact value that lies between the ends. Each call gives ends between which the
+/// exact result lies for every choice of exact values in the operands. No call takes memory.
+#[derive(Clone, Copy, Debug, PartialEq, Eq)]
+pub struct Ival {
+    lo: i128,
+    hi: i128,
+}
+
+impl Model for Ival {
+    ghost use Rattle.std.specs.Prelude.{◌≤ℤ◌};
+    ghost use Rattle.halo_num.specs.Ends.{Ends};
+
+    ghost Value = { Ends };
+
+    ghost view = { λ a. record { lo = a.lo; hi = a.hi } };
+
+    ghost invariant = { λ a. a.lo ≤ℤ a.hi };
+
+    ghost inverse = { λ v. record { lo = v.lo; hi = v.hi } };
+}
+
+impl Ival {
+    /// The lower end, in fine units.
+    pub fn lo(&self) -> i128
+        ensures value { result ≡ self.now.lo }
+        ensures order { self.now.lo ≤ℤ self.now.hi }
+    {
+        self.lo
+    }
+
+    /// The upper end, in fine units.
+    pub fn hi(&self) -> i128
+        ensures value { result ≡ self.now.hi }
+        ensures order { self.now.lo ≤ℤ self.now.hi }
+    {
+        self.hi
+    }
+
+    /// Both ends, in fine units.
+    fn ends(&self) -> (i128, i128)
+        ensures lo { result.0 ≡ self.now.lo }
+        ensures hi { result.1 ≡ self.now.hi }
+        ensures order { self.now.lo ≤ℤ self.now.hi }
+    {
+        (self.lo, self.hi)
+    }
+
+    /// A whole number of fine units, with both ends at it.
+    pub fn exact(units: i128) -> Ival
+        ensures lo { result.lo ≡ units }
+        ensures hi { result.hi ≡ units }
+        ensures encloses { Encloses result units fine }
+    {
+        Ival {
+            lo: units,
+            hi: units,
+        }
+    }
+
+    /// The fraction `n / d`, from 0 to 1: the nearest fine unit below it, and the nearest above it.
+    pub fn ratio(n: u64, d: u64) -> Ival
+        requires from { 1 ≤ d }
+        requires proper { n ≤ d }
+        ensures low { IsFloor result.lo (pos (n * fine)) (pos d) }
+        ensures high { IsCeiling result.hi (pos (n * fine)) (pos d) }
+        ensures encloses { Encloses result (pos n) d }
+        ensures within { IsWithin result (pos 0) (pos fine) }
+        ensures narrow { HasWidth result 1 }
+    {
+        Ival {
+            lo: ratio_down(n, d),
+            hi: ratio_up(n, d),
+        }
+    }
+
+    /// The sum. Its ends are exact.
+    pub fn add(self, o: Ival) -> Ival
+        requires self_in { IsWithin self (neg_ℤ (pos (10 ^ 36))) (pos (10 ^ 36)) }
+        requires o_in { IsWithin o (neg_ℤ (pos (10 ^ 36))) (pos (10 ^ 36)) }
+        ensures lo { result.lo ≡ self.lo +ℤ o.lo }
+        ensures hi { result.hi ≡ self.hi +ℤ o.hi }
+        ensures encloses { (n m : ℤ) (d : ℕ) → Encloses self n d → Encloses o m d → Encloses result (n +ℤ m) d }
+    {
+        Ival {
+            lo: self.lo + o.lo,
+            hi: self.hi + o.hi,
+        }
+    }
+
+    /// The difference. Its ends are exact: the least has the other's upper end taken off.
+    pub fn sub(self, o: Ival) -> Ival
+        requires self_in { IsWithin self (neg_ℤ (pos (10 ^ 36))) (pos (10 ^ 36)) }
+        requires o_in { IsWithin o (neg_ℤ (pos (10 ^ 36))) (pos (10 ^ 36)) }
+        ensures lo { result.lo ≡ self.lo -ℤ o.hi }
+        ensures hi { result.hi ≡ self.hi -ℤ o.lo }
+        ensures encloses { (n m : ℤ) (d : ℕ) → Encloses self n d → Encloses o m d → Encloses result (n -ℤ m) d }
+    {
+        Ival {
+            lo: self.lo - o.hi,
+            hi: self.hi - o.lo,
+        }
+    }
+
+    /// The multiple by a whole number. Its ends are exact; a negative one turns them round.
+    pub fn scale(self, k: i64) -> Ival
+        requires lo_in { IsSized (self.lo *ℤ k) (10 ^ 36) }
+        requires hi_in { IsSized (self.hi *ℤ k) (10 ^ 36) }
+        ensures lo { result.lo ≡ int_min (self.lo *ℤ k) (self.hi *ℤ k) }
+        ensures hi { result.hi ≡ int_max (self.lo *ℤ k) (self.hi *ℤ k) }
+        ensures encloses { (n : ℤ) (d : ℕ) → Encloses self n d → Encloses result (n *ℤ k) d }
+    {
+        let low = multiple(self.lo, k);
+        let high = multiple(self.hi, k);
+        Ival {
+            lo: low.min(high),
+            hi: low.max(high),
+        }
+    }
+
+    /// The product of two intervals that are not below 0, rounded outward. It counts one step.
+    pub fn mul<L: Ledger>(self, o: Ival, steps: &mut Steps<L>) -> Ival
+        requires self_from { pos 0 ≤ℤ self.lo }
+        requires self_in { self.hi ≤ℤ pos (10 ^ 33) }
+        requires o_from { pos 0 ≤ℤ o.lo }
+        requires o_in { o.hi ≤ℤ pos (10 ^ 21) }
+        ensures low { IsFloor result.lo (self.lo *ℤ o.lo) (pos fine) }
+        ensures high { IsCeiling result.hi (self.hi *ℤ o.hi) (pos fine) }
+        ensures encloses { (n m : ℤ) (d e : ℕ) → Encloses self n d → Encloses o m e → Encloses result (n *ℤ m) (d * e) }
+        ensures within { self.hi ≤ℤ pos fine → o.hi ≤ℤ pos fine → IsWithin result (pos 0) (pos fine) }
+        ensures narrow { (v w : ℕ) → self.hi ≤ℤ pos fine → o.hi ≤ℤ pos fine → HasWidth self v → HasWidth o w → HasWidth result (v + w + 1) }
+        ensures cost { steps.new ≡ steps.old + 1 }
+    {
+        steps.tick();
+        Ival {
+            lo: product_down(self.lo, o.lo),
+            hi: product_up(self.hi, o.hi),
+        }
+    }
+
+    /// The quotient by an interval that is not below 1, rounded outward.
+    pub fn quotient(self, o: Ival) -> Ival
+        requires self_from { pos 0 ≤ℤ self.lo }
+        requires self_in { self.hi ≤ℤ pos (10 ^ 33) }
+        requires o_from { pos fine ≤ℤ o.lo }
+        requires o_in { o.hi ≤ℤ pos (10 ^ 21) }
+        ensures low { IsFloor result.lo (self.lo *ℤ pos fine) o.hi }
+        ensures high { IsCeiling result.hi (self.hi *ℤ pos fine) o.lo }
+        ensures encloses { (n : ℤ) (m d e : ℕ) → Encloses self n d → Encloses o (pos m) e → Encloses result (n *ℤ pos e) (d * m) }
+    {
+        Ival {
+            lo: quotient_down(self.lo, o.hi),
+            hi: quotient_up(self.hi, o.lo),
+        }
+    }
+
+    /// The expected value of `a` with the chance `p`, else `b`, all of them from 0 to 1, rounded
+    /// outward from the least and the greatest. It counts two steps.
+    pub fn mix<L: Ledger>(p: Ival, a: Ival, b: Ival, steps: &mut Steps<L>) -> Ival
+        requires p_in { IsWithin p (pos 0) (pos fine) }
+        requires a_in { IsWithin a (pos 0) (pos fine) }
+        requires b_in { IsWithin b (pos 0) (pos fine) }
+        ensures low { IsFloor result.lo (int_min (blend p.lo a.lo b.lo) (blend p.hi a.lo b.lo)) (pos fine) }
+        ensures high { IsCeiling result.hi (int_max (blend p.lo a.hi b.hi) (blend p.hi a.hi b.hi)) (pos fine) }
+        ensures encloses { (s x y d e f : ℕ) → Encloses p (pos s) d → Encloses a (pos x) e → Encloses b (pos y) f → Encloses result (pos (s * x * f + (d - s) * y * e)) (d * e * f) }
+        ensures within { IsWithin result (pos 0) (pos fine) }
+        ensures cost { steps.new ≡ steps.old + 2 }
+    {
+        steps.tick();
+        steps.tick();
+        let (p_low, p_high) = p.ends();
+        let (a_low, a_high) = a.ends();
+        let (b_low, b_high) = b.ends();
+        let lo = least_blend(p_low, p_high, a_low, b_low);
+        let hi = greatest_blend(p_low, p_high, a_high, b_high);
+        Ival { lo, hi }
+    }
+
+    /// The part of the interval from `low` to `high`, in fine units; they must meet it.
+    pub fn clamp(self, low: i128, high: i128) -> Ival
+        requires order { low ≤ℤ high }
+        requires reaches_high { self.lo ≤ℤ high }
+        requires reaches_low { low ≤ℤ self.hi }
+        ensures lo { result.lo ≡ int_max self.lo low }
+        ensures hi { result.hi ≡ int_min self.hi high }
+        ensures encloses { (n : ℤ) (d : ℕ) → Encloses self n d → (low *ℤ pos d) ≤ℤ (n *ℤ pos fine) → (n *ℤ pos fine) ≤ℤ (high *ℤ pos d) → Encloses result n d }
+    {
+        Ival {
+            lo: self.lo.max(low),
+            hi: self.hi.min(high),
+        }
+    }
+
+    /// The interval in printed units of 10^-9, rounded outward.
+    pub fn to_nano(self) -> Nano
+        ensures low { IsFloor result.lo self.lo (pos printed) }
+        ensures high { IsCeiling result.hi self.hi (pos printed) }
+        ensures encloses { (n : ℤ) (d : ℕ) → Encloses self n d → EnclosesPrinted result.lo result.hi n d }
+    {
+        Nano {
+            lo: printed_down(self.lo),
+            hi: printed_up(self.hi),
+        }
+    }
+}
+
+/// The multiple of an end by a whole number.
+fn multiple(end: i128, k: i64) -> i128
+    requires { IsSized (end *ℤ k) (10 ^ 36) }
+    ensures { result ≡ end *ℤ k }
+{
+    end * k as i128
+}

@@ -1,0 +1,116 @@
+//! One rounded step each: a quotient of whole numbers, rounded down or up to a whole number.
+
+ghost use Rattle.std.specs.Prelude.{◌≡◌, ◌*◌, ◌^◌, ◌≤◌, ℤ, pos, ◌*ℤ◌, ◌≤ℤ◌};
+ghost use Rattle.halo_num.specs.Ends.{fine, printed};
+ghost use Rattle.halo_num.specs.Rounding.{IsFloor, IsCeiling};
+
+use crate::units::{FINE_UNITS, PRINTED_UNIT};
+use crate::wide::{divided_multiple, divided_product};
+
+/// The product of two numbers of fine units, in fine units, rounded down.
+pub fn product_down(a: i128, b: i128) -> i128
+    requires a_from { pos 0 ≤ℤ a }
+    requires a_in { a ≤ℤ pos (10 ^ 33) }
+    requires b_from { pos 0 ≤ℤ b }
+    requires b_in { b ≤ℤ pos (10 ^ 21) }
+    ensures floor { IsFloor result (a *ℤ b) (pos fine) }
+    ensures from { pos 0 ≤ℤ result }
+{
+    divided_product(a as u128, b as u128).whole as i128
+}
+
+/// The product of two numbers of fine units, in fine units, rounded up.
+pub fn product_up(a: i128, b: i128) -> i128
+    requires a_from { pos 0 ≤ℤ a }
+    requires a_in { a ≤ℤ pos (10 ^ 33) }
+    requires b_from { pos 0 ≤ℤ b }
+    requires b_in { b ≤ℤ pos (10 ^ 21) }
+    ensures ceiling { IsCeiling result (a *ℤ b) (pos fine) }
+    ensures from { pos 0 ≤ℤ result }
+{
+    let division = divided_product(a as u128, b as u128);
+    if division.rest == 0 {
+        division.whole as i128
+    } else {
+        division.whole as i128 + 1
+    }
+}
+
+/// The quotient of two numbers of fine units, in fine units, rounded down.
+pub fn quotient_down(a: i128, divisor: i128) -> i128
+    requires a_from { pos 0 ≤ℤ a }
+    requires a_in { a ≤ℤ pos (10 ^ 33) }
+    requires divisor_from { pos fine ≤ℤ divisor }
+    requires divisor_in { divisor ≤ℤ pos (10 ^ 21) }
+    ensures floor { IsFloor result (a *ℤ pos fine) divisor }
+    ensures from { pos 0 ≤ℤ result }
+{
+    divided_multiple(a as u128, divisor as u128).whole as i128
+}
+
+/// The quotient of two numbers of fine units, in fine units, rounded up.
+pub fn quotient_up(a: i128, divisor: i128) -> i128
+    requires a_from { pos 0 ≤ℤ a }
+    requires a_in { a ≤ℤ pos (10 ^ 33) }
+    requires divisor_from { pos fine ≤ℤ divisor }
+    requires divisor_in { divisor ≤ℤ pos (10 ^ 21) }
+    ensures ceiling { IsCeiling result (a *ℤ pos fine) divisor }
+    ensures from { pos 0 ≤ℤ result }
+{
+    let division = divided_multiple(a as u128, divisor as u128);
+    if division.rest == 0 {
+        division.whole as i128
+    } else {
+        division.whole as i128 + 1
+    }
+}
+
+/// The fraction `n / d` in fine units, rounded down.
+pub fn ratio_down(n: u64, d: u64) -> i128
+    requires from { 1 ≤ d }
+    requires proper { n ≤ d }
+    ensures floor { IsFloor result (pos (n * fine)) (pos d) }
+    ensures from { pos 0 ≤ℤ result }
+{
+    (n as u128 * FINE_UNITS / d as u128) as i128
+}
+
+/// The fraction `n / d` in fine units, rounded up.
+pub fn ratio_up(n: u64, d: u64) -> i128
+    requires from { 1 ≤ d }
+    requires proper { n ≤ d }
+    ensures ceiling { IsCeiling result (pos (n * fine)) (pos d) }
+    ensures to { result ≤ℤ pos fine }
+{
+    let units = n as u128 * FINE_UNITS;
+    let whole = units / d as u128;
+    if units % d as u128 == 0 {
+        whole as i128
+    } else {
+        whole as i128 + 1
+    }
+}
+
+/// A number of fine units in printed units, rounded down.
+pub fn printed_down(units: i128) -> i128
+    ensures { IsFloor result units (pos printed) }
+{
+    let toward_zero = units / PRINTED_UNIT;
+    if units % PRINTED_UNIT < 0 {
+        toward_zero - 1
+    } else {
+        toward_zero
+    }
+}
+
+/// A number of fine units in printed units, rounded up.
+pub fn printed_up(units: i128) -> i128
+    ensures { IsCeiling result units (pos printed) }
+{
+    let toward_zero = units / PRINTED_UNIT;
+    if units % PRINTED_UNIT > 0 {
+        toward_zero + 1
+    } else {
+        toward_zero
+    }
+}
