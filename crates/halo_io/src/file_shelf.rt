@@ -43,7 +43,7 @@ impl<'a, R: Files> Shelf for FileShelf<'a, R> {
         ensures later { (n : List ℕ) → self.old.faults ≤ self.new.faults }
         ensures bound { ReadsAtMost result into.new }
         ensures cause { OnErr result (Rose self.old.faults self.new.faults) }
-        ensures next { self.new.faults ≡ count_after self.old.faults result }
+        ensures next { self.new ≡ record self.old { faults = count_after self.old.faults result } }
     {
         match read_once(self.rt, name, at, into) {
             Ok(count) => Ok(count),

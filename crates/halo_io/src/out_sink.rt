@@ -37,7 +37,7 @@ impl<'a, R: Print> Sink for OutSink<'a, R> {
         ensures bytes { AppendsTaken None None result piece.now }
         ensures cause { OnErr result (Rose self.old.faults self.new.faults) }
 
-        ensures next { self.new.faults ≡ count_after self.old.faults result }
+        ensures next { self.new ≡ record self.old { faults = count_after self.old.faults result } }
     {
         match self.rt.write_some(piece) {
             Ok(count) if count > 0 || piece.is_empty() => Ok(count),
