@@ -4,7 +4,8 @@ use Rattle.std.proofs.Math.Seq.{take-add, take-length}
 use Rattle.std.proofs.lemmas.List.{length-drop, length-take}
 use Rattle.std.proofs.lemmas.Slice.Eq.{bytes_eq-Decides}
 use Rattle.std.specs.Str.{bytes_eq}
-use Rattle.halo_io.specs.Told.{AppendsTold, StandsAt}
+use Rattle.halo_io.specs.Told.{AppendsTold}
+use Rattle.halo_io.specs.SureSink.{StandsAt}
 use Rattle.halo_io.proofs.Appended.{take-rest}
 
 -- the rest from a place on starts with a piece exactly where the piece stands at that place

@@ -19,7 +19,3 @@ AppendsTaken old new result piece = MatchResult result (λ n. AppendsTold old ne
 -- what a sink tells has grown by a prefix of these bytes
 abbrev pub TookPrefix : Option (List ℕ) → Option (List ℕ) → List ℕ → Type 0
 TookPrefix old new bytes = (n : ℕ) × (n ≤ length bytes) × AppendsTold old new (take n bytes)
-
--- a piece stands in the bytes at that place
-abbrev pub StandsAt : List ℕ → ℕ → List ℕ → Type 0
-StandsAt bytes at piece = take (length piece) (drop at bytes) ≡ piece

@@ -1,7 +1,7 @@
-ghost use Rattle.std.specs.Prelude.{◌≡◌, ◌≤◌, ◌↔◌, ◌⊎◌, ℕ, List, None, length, Contains, IfOk, IfSome, IsErr, OnErr};
+ghost use Rattle.std.specs.Prelude.{◌≡◌, ◌≤◌, ◌↔◌, ℕ, List, length, IfOk, IfSome, IsErr, OnErr};
 ghost use Rattle.std.specs.Io.{ReadsAtMost};
-ghost use Rattle.halo_io.specs.Counts.{Rose, raised, count_after};
-ghost use Rattle.halo_io.specs.Held.{bytes_under, count_from};
+ghost use Rattle.halo_io.specs.Counts.{Rose};
+ghost use Rattle.halo_io.specs.Held.{count_from};
 ghost use Rattle.halo_io.specs.Told.{GivesAt};
 
 use crate::held::{copy_from, find_bytes};
@@ -35,22 +35,24 @@ impl MemShelf {
 }
 
 impl Shelf for MemShelf {
-    ghost file = { λ shelf name. bytes_under shelf.files.items name };
+    ghost use Rattle.halo_io.specs.MemShelf.{file_of, faults_of, FailsAt, after_call};
 
-    ghost faults = { λ shelf name. shelf.faults };
+    ghost file = { file_of };
+
+    ghost faults = { λ shelf name. faults_of shelf };
 
     /// Gives as many bytes as `into` has room for, but at most what the file has left from `at`.
     /// Fails exactly where the call's number is listed, or no file has that name.
     fn read_at(&mut self, name: &str, at: u64, into: &mut [u8]) -> Result<usize, Failed>
-        ensures same { (n : List ℕ) → bytes_under self.new.files.items n ≡ bytes_under self.old.files.items n }
-        ensures later { (n : List ℕ) → self.old.faults ≤ self.new.faults }
+        ensures same { (n : List ℕ) → file_of self.new n ≡ file_of self.old n }
+        ensures later { (n : List ℕ) → faults_of self.old ≤ faults_of self.new }
         ensures bound { ReadsAtMost result into.new }
-        ensures bytes { GivesAt (bytes_under self.old.files.items name.now) at result into.new }
-        ensures cause { OnErr result (Rose self.old.faults self.new.faults) }
+        ensures bytes { GivesAt (file_of self.old name.now) at result into.new }
+        ensures cause { OnErr result (Rose (faults_of self.old) (faults_of self.new)) }
 
-        ensures fails { IsErr result ↔ (Contains self.old.failing.items self.old.calls ⊎ (bytes_under self.old.files.items name.now ≡ None)) }
-        ensures count { IfSome (bytes_under self.old.files.items name.now) (λ file. IfOk result (λ n. n ≡ count_from file at (length into.old))) }
-        ensures next { self.new ≡ record self.old { calls = raised self.old.calls; faults = count_after self.old.faults result } }
+        ensures fails { IsErr result ↔ FailsAt self.old name.now }
+        ensures count { IfSome (file_of self.old name.now) (λ file. IfOk result (λ n. n ≡ count_from file at (length into.old))) }
+        ensures next { self.new ≡ after_call self.old result }
     {
         let call = self.calls;
         self.calls = call.saturating_add(1);

@@ -1,7 +1,6 @@
-ghost use Rattle.std.specs.Prelude.{◌≡◌, ◌≤◌, ◌<◌, ◌+◌, ◌-◌, ◌↔◌, ◌⊎◌, ℕ, Some, take, length, min, vec_len, vec_capacity, Contains, IfOk, IsErr, OnErr};
+ghost use Rattle.std.specs.Prelude.{◌≡◌, ◌≤◌, ◌<◌, ◌↔◌, Some, length, vec_len, IfOk, IsErr, OnErr};
 ghost use Rattle.std.specs.Io.{WritesAtMost};
-ghost use Rattle.halo_io.specs.Counts.{Rose, raised, count_after};
-ghost use Rattle.halo_io.specs.Stored.{written_over, count_taken};
+ghost use Rattle.halo_io.specs.Counts.{Rose};
 ghost use Rattle.halo_io.specs.Told.{AppendsTaken};
 
 use crate::{Failed, Sink};
@@ -45,30 +44,25 @@ impl MemSink {
 }
 
 impl Sink for MemSink {
-    ghost taken = { λ sink. Some (take sink.written sink.store.items) };
+    ghost use Rattle.halo_io.specs.MemSink.{taken_of, faults_of, count_of, FailsAt, IsAfterWrite};
 
-    ghost faults = { λ sink. sink.faults };
+    ghost taken = { λ sink. Some (taken_of sink) };
+
+    ghost faults = { faults_of };
 
     /// Takes as many bytes as `piece` has, but at most as many as the sink takes in a call, and at
     /// most what is left of the store. Fails exactly where the call's number is listed, or `piece`
     /// has bytes and the store is full.
     fn write(&mut self, piece: &[u8]) -> Result<usize, Failed>
-        ensures later { self.old.faults ≤ self.new.faults }
+        ensures later { faults_of self.old ≤ faults_of self.new }
         ensures bound { WritesAtMost result piece.now }
         ensures some { IfOk result (λ n. 0 < length piece.now → 0 < n) }
-        ensures bytes { AppendsTaken (Some (take self.old.written self.old.store.items)) (Some (take self.new.written self.new.store.items)) result piece.now }
-        ensures cause { OnErr result (Rose self.old.faults self.new.faults) }
+        ensures bytes { AppendsTaken (Some (taken_of self.old)) (Some (taken_of self.new)) result piece.now }
+        ensures cause { OnErr result (Rose (faults_of self.old) (faults_of self.new)) }
 
-        ensures fails { IsErr result ↔ (Contains self.old.failing.items self.old.calls ⊎ ((0 < length piece.now) × (vec_len self.old.store ≡ self.old.written))) }
-        ensures size { IfOk result (λ n. n ≡ min (min (length piece.now) self.old.piece) (vec_len self.old.store - self.old.written)) }
-        ensures store { IfOk result (λ n. self.new.store.items ≡ written_over self.old.store.items self.old.written (take n piece.now)) }
-        ensures kept { OnErr result (self.new.store ≡ self.old.store) }
-        ensures written { self.new.written ≡ self.old.written + count_taken result }
-        ensures calls { self.new.calls ≡ raised self.old.calls }
-        ensures faults { self.new.faults ≡ count_after self.old.faults result }
-        ensures failing { self.new.failing ≡ self.old.failing }
-        ensures piece { self.new.piece ≡ self.old.piece }
-        ensures capacity { vec_capacity self.new.store ≡ vec_capacity self.old.store }
+        ensures fails { IsErr result ↔ FailsAt self.old piece.now }
+        ensures count { IfOk result (λ n. n ≡ count_of self.old piece.now) }
+        ensures next { IsAfterWrite self.old self.new piece.now result }
     {
         let call = self.calls;
         self.calls = call.saturating_add(1);

@@ -1,6 +1,6 @@
 ghost use Rattle.std.specs.Prelude.{◌≡◌, ℕ, List, Some, length, IfOk, IsOk};
 ghost use Rattle.std.specs.Io.{ReadsAtMost};
-ghost use Rattle.halo_io.specs.Held.{bytes_or_empty, count_from};
+ghost use Rattle.halo_io.specs.Held.{count_from};
 ghost use Rattle.halo_io.specs.Told.{GivesAt};
 
 use crate::held::{copy_from, find_bytes};
@@ -25,16 +25,18 @@ impl SureShelf {
 }
 
 impl Shelf for SureShelf {
-    ghost file = { λ shelf name. Some (bytes_or_empty shelf.files.items name) };
+    ghost use Rattle.halo_io.specs.SureShelf.{file_of};
+
+    ghost file = { λ shelf name. Some (file_of shelf name) };
 
     ghost faults = { λ shelf name. 0 };
 
     /// Gives as many bytes as `into` has room for, but at most what the file has left from `at`.
     fn read_at(&mut self, name: &str, at: u64, into: &mut [u8]) -> Result<usize, Failed>
         ensures bound { ReadsAtMost result into.new }
-        ensures bytes { GivesAt (Some (bytes_or_empty self.old.files.items name.now)) at result into.new }
+        ensures bytes { GivesAt (Some (file_of self.old name.now)) at result into.new }
         ensures never_fails { IsOk result }
-        ensures count { IfOk result (λ n. n ≡ count_from (bytes_or_empty self.old.files.items name.now) at (length into.old)) }
+        ensures count { IfOk result (λ n. n ≡ count_from (file_of self.old name.now) at (length into.old)) }
         ensures next { self.new ≡ self.old }
     {
         match find_bytes(&self.files, name) {

@@ -1,7 +1,6 @@
-ghost use Rattle.std.specs.Prelude.{◌≡◌, ◌≤◌, ◌<◌, ◌+◌, ◌^◌, ◌-◌, ◌↔◌, ℕ, Some, None, Ok, true, false, min, take, length, if◌then◌else◌, IsTrue, IfOk, OnErr};
-ghost use Rattle.std.specs.Io.{WritesAtMost};
-ghost use Rattle.halo_io.specs.Counts.{Rose};
-ghost use Rattle.halo_io.specs.Told.{AppendsTaken, StandsAt};
+ghost use Rattle.std.specs.Prelude.{◌≡◌, ◌↔◌, Ok, true, length, IsTrue};
+ghost use Rattle.halo_io.specs.SureSink.{StandsAt};
+ghost use Rattle.halo_io.specs.Told.{AppendsTaken};
 
 use crate::{Failed, Sink};
 
@@ -41,16 +40,18 @@ fn stands_at(room: &[u8], at: usize, piece: &[u8]) -> bool
 }
 
 impl Sink for SureSink {
-    ghost taken = { λ sink. if sink.tells then Some (take sink.count sink.room.items) else None };
+    ghost use Rattle.halo_io.specs.SureSink.{taken_of, IsAfterWrite};
+
+    ghost taken = { taken_of };
 
     ghost faults = { λ sink. 0 };
 
+    /// Takes the piece whole. It goes on telling exactly if it told before, and the piece is what
+    /// is expected next.
     fn write(&mut self, piece: &[u8]) -> Result<usize, Failed>
-        ensures bytes { AppendsTaken (if self.old.tells then Some (take self.old.count self.old.room.items) else None) (if self.new.tells then Some (take self.new.count self.new.room.items) else None) result piece.now }
         ensures whole { result ≡ Ok (length piece.now) }
-        ensures tells { IsTrue self.new.tells ↔ (IsTrue self.old.tells × StandsAt self.old.room.items self.old.count piece.now) }
-        ensures count { self.new.count ≡ min (self.old.count + length piece.now) (2 ^ 64 - 1) }
-        ensures room { self.new.room ≡ self.old.room }
+        ensures bytes { AppendsTaken (taken_of self.old) (taken_of self.new) result piece.now }
+        ensures next { IsAfterWrite self.old self.new piece.now }
     {
         self.tells &= stands_at(&self.room, self.count, piece);
         self.count = self.count.saturating_add(piece.len());
