@@ -15,6 +15,7 @@ use crate::{Failed, Shelf};
 pub struct MemShelf {
     files: Vec<(String, Vec<u8>)>,
     failing: Vec<u64>,
+    // The number of the next call.
     calls: u64,
     faults: u64,
 }

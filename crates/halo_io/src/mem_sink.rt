@@ -1,4 +1,4 @@
-ghost use Rattle.std.specs.Prelude.{◌≡◌, ◌≤◌, ◌<◌, ◌↔◌, Some, length, vec_len, IfOk, IsErr, OnErr};
+ghost use Rattle.std.specs.Prelude.{◌≡◌, ◌≤◌, ◌<◌, ◌↔◌, Some, length, vec_len, IfOk, IsErr, IsTrue, OnErr};
 ghost use Rattle.std.specs.Io.{WritesAtMost};
 ghost use Rattle.halo_io.specs.Counts.{Rose};
 ghost use Rattle.halo_io.specs.Told.{AppendsTaken};
@@ -12,8 +12,10 @@ use crate::{Failed, Sink};
 pub struct MemSink {
     store: Vec<u8>,
     failing: Vec<u64>,
+    // The most that a call takes.
     piece: usize,
     written: usize,
+    // The number of the next call.
     calls: u64,
     faults: u64,
     ghost some: { 1 ≤ piece },
@@ -21,6 +23,8 @@ pub struct MemSink {
 }
 
 impl MemSink {
+    ghost use Rattle.halo_io.specs.MemSink.{taken_of, room_of, FailsAt};
+
     /// A sink that writes over the bytes of `store` from the first on, at most `piece` in a call,
     /// and whose calls with numbers that stand in `failing` fail. Calls are numbered from 0.
     pub fn new(store: Vec<u8>, failing: Vec<u64>, piece: usize) -> MemSink
@@ -40,6 +44,30 @@ impl MemSink {
             calls: 0,
             faults: 0,
         }
+    }
+
+    /// The bytes written so far.
+    pub fn written(&self) -> &[u8]
+        ensures { result.now ≡ taken_of self.now }
+    {
+        &self.store[..self.written]
+    }
+
+    // How many bytes the store has left.
+    fn room(&self) -> usize
+        ensures { result ≡ room_of self.now }
+    {
+        self.store.len() - self.written
+    }
+
+    // Whether the next call fails if it is given this piece.
+    fn fails_at(&self, piece: &[u8]) -> bool
+        ensures { IsTrue result ↔ FailsAt self.now piece.now }
+    {
+        if self.failing.contains(&self.calls) {
+            return true;
+        }
+        self.room() == 0 && !piece.is_empty()
     }
 }
 
@@ -64,21 +92,16 @@ impl Sink for MemSink {
         ensures count { IfOk result (λ n. n ≡ count_of self.old piece.now) }
         ensures next { IsAfterWrite self.old self.new piece.now result }
     {
-        let call = self.calls;
-        self.calls = call.saturating_add(1);
-        let room = self.store.len() - self.written;
-        if self.failing.contains(&call) {
+        let fails = self.fails_at(piece);
+        self.calls = self.calls.saturating_add(1);
+        if fails {
             self.faults = self.faults.saturating_add(1);
             return Err(Failed);
         }
-        if room == 0 && !piece.is_empty() {
-            self.faults = self.faults.saturating_add(1);
-            return Err(Failed);
-        }
-        let count = piece.len().min(self.piece).min(room);
-        let at = self.written;
-        self.store.as_mut_slice()[at..at + count].copy_from_slice(&piece[..count]);
-        self.written = at + count;
+        let count = piece.len().min(self.piece).min(self.room());
+        let end = self.written + count;
+        self.store[self.written..end].copy_from_slice(&piece[..count]);
+        self.written = end;
         Ok(count)
     }
 }
