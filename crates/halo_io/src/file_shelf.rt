@@ -18,7 +18,7 @@ pub struct FileShelf<'a, R> {
 impl<'a, R: Files> FileShelf<'a, R> {
     /// The files that this runtime reaches.
     pub fn new(rt: &'a R) -> FileShelf<'a, R>
-        ensures { result.faults ≡ 0 }
+        ensures { result ≡ record { rt = rt.entry; faults = 0 } }
     {
         FileShelf { rt, faults: 0 }
     }

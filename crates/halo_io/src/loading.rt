@@ -47,15 +47,15 @@ pub fn load<S: Shelf>(
     'reads: while bytes.len() <= limit {
         let want = PIECE.min(limit + 1 - bytes.len());
         let at = bytes.len() as u64;
-        match shelf.read_at(name, at, &mut piece[..want]) {
-            Err(_) => return Err(LoadFault::Read),
-            Ok(0) => return Ok(bytes),
-            Ok(count) => {
-                if bytes.extend_from_slice(&piece[..count]).is_err() {
-                    return Err(LoadFault::Memory);
-                }
-            }
+        let count = shelf
+            .read_at(name, at, &mut piece[..want])
+            .map_err(|_| LoadFault::Read)?;
+        if count == 0 {
+            return Ok(bytes);
         }
+        bytes
+            .extend_from_slice(&piece[..count])
+            .map_err(|_| LoadFault::Memory)?;
     }
     Err(LoadFault::TooLong)
 }

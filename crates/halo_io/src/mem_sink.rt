@@ -84,7 +84,7 @@ impl Sink for MemSink {
     fn write(&mut self, piece: &[u8]) -> Result<usize, Failed>
         ensures later { faults_of self.old ≤ faults_of self.new }
         ensures bound { WritesAtMost result piece.now }
-        ensures some { IfOk result (λ n. 0 < length piece.now → 0 < n) }
+        ensures progress { IfOk result (λ n. 0 < length piece.now → 0 < n) }
         ensures bytes { AppendsTaken (Some (taken_of self.old)) (Some (taken_of self.new)) result piece.now }
         ensures cause { OnErr result (Rose (faults_of self.old) (faults_of self.new)) }
 

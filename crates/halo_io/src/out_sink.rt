@@ -18,7 +18,7 @@ pub struct OutSink<'a, R> {
 impl<'a, R: Print> OutSink<'a, R> {
     /// The standard output of this runtime.
     pub fn new(rt: &'a R) -> OutSink<'a, R>
-        ensures { result.faults ≡ 0 }
+        ensures { result ≡ record { rt = rt.entry; faults = 0 } }
     {
         OutSink { rt, faults: 0 }
     }
@@ -33,7 +33,7 @@ impl<'a, R: Print> Sink for OutSink<'a, R> {
     fn write(&mut self, piece: &[u8]) -> Result<usize, Failed>
         ensures later { self.old.faults ≤ self.new.faults }
         ensures bound { WritesAtMost result piece.now }
-        ensures some { IfOk result (λ n. 0 < length piece.now → 0 < n) }
+        ensures progress { IfOk result (λ n. 0 < length piece.now → 0 < n) }
         ensures bytes { AppendsTaken None None result piece.now }
         ensures cause { OnErr result (Rose self.old.faults self.new.faults) }
 

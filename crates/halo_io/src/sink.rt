@@ -20,7 +20,7 @@ pub trait Sink {
     fn write(&mut self, piece: &[u8]) -> Result<usize, Failed>
         ensures later { faults self.old ≤ faults self.new }
         ensures bound { WritesAtMost result piece.now }
-        ensures some { IfOk result (λ n. 0 < length piece.now → 0 < n) }
+        ensures progress { IfOk result (λ n. 0 < length piece.now → 0 < n) }
         ensures bytes { AppendsTaken (taken self.old) (taken self.new) result piece.now }
         ensures cause { OnErr result (Rose (faults self.old) (faults self.new)) };
 }

@@ -1,14 +1,18 @@
-use Rattle.std.proofs.Common.{arith, ◌∙◌}
-use Rattle.std.proofs.lemmas.List.{take-append-le}
-use Rattle.halo_io.proofs.Front.{front-read}
+use Rattle.std.proofs.Common.{arith, ◌∙◌, refl}
+use Rattle.halo_io.proofs.Front.{front-read, ok-mapped}
 use Rattle.halo_io.proofs.loading.load.Goals as goal
 
 pub reads-preserved : goal.reads-preserved
 reads-preserved g c =
-    let b = c.in-Ok.ensures.bound in
-    let items = rw c.if-is_err.ensures.negation at c.extend_from_slice.ensures.items in
-    let front = front-read _ _ c.reads.bytes.items c.read_at.new.into _ c.in-Ok.count (c.reads.invariant.0 c.args.name.now) (c.len-at.ensures ∙ c.reads.bytes.ok.0) b.0 c.in-Ok.ensures.bytes c.reads.invariant.2 in (
-      (λ n. c.in-Ok.ensures.same n ∙ c.reads.invariant.0 n),
-      (λ n. omega (arith, c.in-Ok.ensures.later n, c.reads.invariant.1 n)),
-      rw (items, take-append-le c.in-Ok.count c.read_at.new.into _ b.0) front,
+    let read = c.read_at.ensures in
+    let mapped = c.in_ok-count.ensures in
+    let gave = ok-mapped c.read_at.result _ c.in_ok-count.count _ refl mapped.cases mapped.variant in
+    let front =
+    front-read _ _ c.reads.bytes.items c.read_at.new.into _ _ c.in_ok-count.count _
+    (c.reads.invariant.0 c.args.name.now) (c.len-at.ensures ∙ c.reads.bytes.ok.0) gave
+    read.bound read.bytes c.reads.invariant.2 in
+    let items = rw (← c.in_ok-map_err.ensures.variant) at c.extend_from_slice.ensures.items in (
+      (λ n. read.same n ∙ c.reads.invariant.0 n),
+      (λ n. omega (arith, read.later n, c.reads.invariant.1 n)),
+      rw items front,
     )
