@@ -4,7 +4,7 @@ use Rattle.std.specs.Global.{Vec}
 use Rattle.halo_io.specs.declared.loading.LoadFault.{LoadFault}
 use Rattle.halo_io.specs.declared.loading.LoadFault.TheVariants as fault
 
--- a load answers with all the bytes of the file, and `TooLong` only where they are more than the limit
+-- `Ok` gives all the bytes of the file, and `TooLong` says that they are more than the limit
 abbrev pub Loads : List ℕ → ℕ → Result (Vec ℕ) LoadFault → Type 0
 Loads file limit (Ok bytes) = bytes.items ≡ file
 Loads file limit (Err fault.TooLong) = limit < length file

@@ -19,4 +19,5 @@ FailsAt shelf name = Contains shelf.failing.items shelf.calls ⊎ (file_of shelf
 
 -- the shelf after a call, which uses up a number, and is counted if it failed
 abbrev pub after_call : MemShelf → Result ℕ Failed → MemShelf
-after_call shelf result = record shelf { calls = raised shelf.calls; faults = count_after shelf.faults result }
+after_call shelf result =
+    record shelf { calls = raised shelf.calls; faults = count_after shelf.faults result }

@@ -1,5 +1,6 @@
 -- A store in memory of which chosen writes fail.
-use Rattle.std.specs.Prelude.{◌≡◌, ◌<◌, ℕ, ◌+◌, ◌-◌, min, List, length, take, ◌⊎◌, Result, OnErr, IfOk, Contains, vec_len, vec_capacity}
+use Rattle.std.specs.Prelude.{◌≡◌, ◌<◌, ℕ, ◌+◌, ◌-◌, min, List, length, take, ◌⊎◌}
+use Rattle.std.specs.Prelude.{Result, OnErr, IfOk, Contains, vec_len, vec_capacity}
 use Rattle.halo_io.specs.declared.failed.Failed.{Failed}
 use Rattle.halo_io.specs.declared.mem_sink.MemSink.{MemSink}
 use Rattle.halo_io.specs.Counts.{raised, count_after}
@@ -19,15 +20,19 @@ room_of sink = vec_len sink.store - sink.written
 
 -- the next call fails if it is given this piece: its number is listed, or the store is full
 abbrev pub FailsAt : MemSink → List ℕ → Type 0
-FailsAt sink piece = Contains sink.failing.items sink.calls ⊎ ((0 < length piece) × (room_of sink ≡ 0))
+FailsAt sink piece =
+    Contains sink.failing.items sink.calls ⊎ ((0 < length piece) × (room_of sink ≡ 0))
 
--- how many bytes a call takes: as many as the piece has, but at most a piece of the sink's size, and at most what is left
+-- how many bytes a call takes: as many as the piece has, but at most what the sink takes in a
+-- call, and at most what is left
 abbrev pub count_of : MemSink → List ℕ → ℕ
 count_of sink piece = min (min (length piece) sink.piece) (room_of sink)
 
--- the sink after a call: it has written what it took over the store, and nothing if it failed
-pub record IsAfterWrite (old new : MemSink) (piece : List ℕ) (result : Result ℕ Failed) : Type 0 where
-  pub store : IfOk result (λ n. new.store.items ≡ written_over old.store.items old.written (take n piece))
+-- the sink after a call: it wrote what it took over the store, and nothing if it failed
+pub record IsAfterWrite (old new : MemSink) (piece : List ℕ) (result : Result ℕ Failed)
+    : Type 0 where
+  pub store : IfOk result (λ n.
+      new.store.items ≡ written_over old.store.items old.written (take n piece))
   pub kept : OnErr result (new.store ≡ old.store)
   pub capacity : vec_capacity new.store ≡ vec_capacity old.store
   pub written : new.written ≡ old.written + count_taken result

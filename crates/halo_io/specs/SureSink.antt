@@ -1,5 +1,6 @@
 -- A sink that knows the bytes that its caller expects.
-use Rattle.std.specs.Prelude.{◌≡◌, ℕ, ◌+◌, ◌-◌, ◌^◌, min, List, length, take, drop, Option, None, Some, if◌then◌else◌, IsTrue, ◌↔◌}
+use Rattle.std.specs.Prelude.{◌≡◌, ◌↔◌, ℕ, ◌+◌, ◌-◌, ◌^◌, min, List, length, take, drop}
+use Rattle.std.specs.Prelude.{Option, None, Some, if◌then◌else◌, IsTrue}
 use Rattle.halo_io.specs.declared.sure_sink.SureSink.{SureSink}
 
 -- the bytes taken, as long as they are those that are expected

@@ -40,7 +40,8 @@ pub fn load<S: Shelf>(
     ensures later { (n : List ℕ) → S.faults shelf.old n ≤ S.faults shelf.new n }
     ensures within { IfOk result (λ bytes. vec_len bytes ≤ limit) }
     ensures told { IfSome (S.file shelf.old name.now) (λ file. Loads file limit result) }
-    ensures cause { IsErrOf result LoadFault.Read → Rose (S.faults shelf.old name.now) (S.faults shelf.new name.now) }
+    ensures cause { IsErrOf result LoadFault.Read →
+        Rose (S.faults shelf.old name.now) (S.faults shelf.new name.now) }
 {
     let mut bytes = Vec::new(alloc);
     let mut piece = [0u8; PIECE];

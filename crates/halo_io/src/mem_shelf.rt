@@ -52,7 +52,8 @@ impl Shelf for MemShelf {
         ensures cause { OnErr result (Rose (faults_of self.old) (faults_of self.new)) }
 
         ensures fails { IsErr result ↔ FailsAt self.old name.now }
-        ensures count { IfSome (file_of self.old name.now) (λ file. IfOk result (λ n. n ≡ count_from file at (length into.old))) }
+        ensures count { IfSome (file_of self.old name.now) (λ file.
+            IfOk result (λ n. n ≡ count_from file at (length into.old))) }
         ensures next { self.new ≡ after_call self.old result }
     {
         let call = self.calls;

@@ -5,7 +5,8 @@ ghost use Rattle.halo_io.specs.Told.{AppendsTaken};
 
 use crate::{Failed, Sink};
 
-/// A store in memory that takes what fits, and of which chosen writes fail. It takes no memory.
+/// A store in memory that takes what fits, and of which chosen writes fail. A write takes no
+/// memory.
 ///
 /// It tells the bytes that it wrote. Its counter of failures begins at 0.
 #[derive(Drop)]

@@ -3,7 +3,8 @@ use Rattle.halo_io.specs.Told.{AppendsTold}
 use Rattle.halo_io.proofs.writing.put_all.Given as goal
 
 abbrev pub invariant-writes : goal.invariant-writes
-invariant-writes g l = (l.done ≤ length l.bytes) × (g.K.Sink.faults l.initial.sink ≤ g.K.Sink.faults l.sink)
+invariant-writes g l = (l.done ≤ length l.bytes)
+    × (g.K.Sink.faults l.initial.sink ≤ g.K.Sink.faults l.sink)
     × AppendsTold (g.K.Sink.taken l.initial.sink) (g.K.Sink.taken l.sink) (take l.done l.bytes)
 
 abbrev pub decreases-writes : goal.decreases-writes

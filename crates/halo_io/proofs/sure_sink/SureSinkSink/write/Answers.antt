@@ -5,4 +5,6 @@ use Rattle.halo_io.proofs.sure_sink.SureSinkSink.write.Goals as goal
 pub returns-clause-bytes : goal.returns-clause-bytes
 returns-clause-bytes c =
     let sink = c.args.self.now in
-    told-next sink.room.items c.args.piece.now sink.count _ sink.tells _ (omega arith) (omega arith) c.saturating_add-self.ensures (rw c.deref.ensures.value at c.stands_at.ensures.0)
+    let here = rw c.deref.ensures.value at c.stands_at.ensures.0 in
+    told-next sink.room.items c.args.piece.now sink.count _ sink.tells _ (omega arith) (omega arith)
+    c.saturating_add-self.ensures here
