@@ -6,6 +6,9 @@ use crate::Shelf;
 use std::alloc::Global;
 use thiserror::Error;
 
+/// The greatest limit that `load` takes, in bytes.
+pub const GREATEST_LIMIT: usize = 16_777_216;
+
 // How many bytes a read asks for.
 const PIECE: usize = 4096;
 
@@ -23,7 +26,7 @@ pub enum LoadFault {
     Memory,
 }
 
-/// All the bytes of the file `name`, at most `limit` of them.
+/// All the bytes of the file `name`, at most `limit` of them, which is at most `GREATEST_LIMIT`.
 ///
 /// It reads until a read gives no byte, or more than `limit` bytes were read; so each turn of its
 /// loop takes at least one byte or ends. It answers `Read` only where the shelf's count of this
@@ -35,7 +38,7 @@ pub fn load<S: Shelf>(
     name: &str,
     limit: usize,
 ) -> Result<Vec<u8>, LoadFault>
-    requires { limit ≤ 16777216 }
+    requires { limit ≤ GREATEST_LIMIT }
     ensures same { (n : List ℕ) → S.file shelf.new n ≡ S.file shelf.old n }
     ensures later { (n : List ℕ) → S.faults shelf.old n ≤ S.faults shelf.new n }
     ensures within { IfOk result (λ bytes. vec_len bytes ≤ limit) }
