@@ -54,27 +54,6 @@ encloses_mul a b r n m d e al bl ah bh rl rh f c p q =
       high = mul_high r.hi a.hi b.hi n m d e rh (omega (arith, ints)) (omega (arith, ints)) (not_negative a.lo n d al p.low) (not_negative b.lo m e bl q.low) c.reached p.high q.high;
     }
 
--- the width of a product within 0 and 1, over naturals
-width_nat : (lo hi al ah bl bh v w : ℕ) → al * bl < lo * 10 ^ 18 + 10 ^ 18 → hi * 10 ^ 18 < ah * bh + 10 ^ 18 → ah ≤ al + v → bh ≤ bl + w → ah ≤ 10 ^ 18 → bl ≤ 10 ^ 18 → hi ≤ lo + (v + w + 1)
-width_nat lo hi al ah bl bh v w p q i j k l =
-    let m : ah * bh ≤ ah * (bl + w) = mul-le-mul_left ah j
-    in let n : ah * w ≤ 10 ^ 18 * w = mul-le-mul_right w k
-    in let o : ah * bl ≤ (al + v) * bl = mul-le-mul_right bl i
-    in let r : v * bl ≤ v * 10 ^ 18 = mul-le-mul_left v l
-    in omega arith
-
--- a product within 0 and 1 is at most 1 wider than its factors together
-pub width_mul : (lo hi al ah bl bh : ℤ) (v w : ℕ) → pos 0 ≤ℤ lo → pos 0 ≤ℤ hi → pos 0 ≤ℤ al → pos 0 ≤ℤ bl → al ≤ℤ ah → bl ≤ℤ bh → ah ≤ℤ pos fine → bh ≤ℤ pos fine → IsFloor lo (al *ℤ bl) (pos fine) → IsCeiling hi (ah *ℤ bh) (pos fine) → ah ≤ℤ (al +ℤ pos v) → bh ≤ℤ (bl +ℤ pos w) → hi ≤ℤ (lo +ℤ pos (v + w + 1))
-width_mul (pos lo) (pos hi) (pos al) (pos ah) (pos bl) (pos bh) v w i0 i1 i2 i3 i4 i5 i6 i7 f c p q =
-    let k = width_nat lo hi al ah bl bh v w (omega (arith, ints, f.nearest)) (omega (arith, ints, c.nearest)) (omega (arith, ints)) (omega (arith, ints)) (omega (arith, ints)) (omega (arith, ints))
-    in omega (arith, ints)
-width_mul (negsuc lo) hi al ah bl bh v w i0 i1 i2 i3 i4 i5 i6 i7 f c p q = absurd (omega (arith, ints, i0))
-width_mul lo (negsuc hi) al ah bl bh v w i0 i1 i2 i3 i4 i5 i6 i7 f c p q = absurd (omega (arith, ints, i1))
-width_mul lo hi (negsuc al) ah bl bh v w i0 i1 i2 i3 i4 i5 i6 i7 f c p q = absurd (omega (arith, ints, i2))
-width_mul lo hi al ah (negsuc bl) bh v w i0 i1 i2 i3 i4 i5 i6 i7 f c p q = absurd (omega (arith, ints, i3))
-width_mul lo hi (pos al) (negsuc ah) bl bh v w i0 i1 i2 i3 i4 i5 i6 i7 f c p q = absurd (omega (arith, ints, i4))
-width_mul lo hi al ah (pos bl) (negsuc bh) v w i0 i1 i2 i3 i4 i5 i6 i7 f c p q = absurd (omega (arith, ints, i5))
-
 -- a product of parts of 1, over naturals
 one_nat : (hi ah bh : ℕ) → hi * 10 ^ 18 < ah * bh + 10 ^ 18 → ah ≤ 10 ^ 18 → bh ≤ 10 ^ 18 → hi ≤ 10 ^ 18
 one_nat hi ah bh q i j = let m : ah * bh ≤ 10 ^ 18 * 10 ^ 18 = mul-le ah bh (10 ^ 18) (10 ^ 18) i j in omega arith

@@ -99,6 +99,7 @@ impl Ival {
         ensures lo { result.lo ≡ self.lo +ℤ o.lo }
         ensures hi { result.hi ≡ self.hi +ℤ o.hi }
         ensures encloses { (n m : ℤ) (d : ℕ) → Encloses self n d → Encloses o m d → Encloses result (n +ℤ m) d }
+        ensures narrow { (v w : ℕ) → HasWidth self v → HasWidth o w → HasWidth result (v + w) }
     {
         Ival {
             lo: self.lo + o.lo,
@@ -113,6 +114,7 @@ impl Ival {
         ensures lo { result.lo ≡ self.lo -ℤ o.hi }
         ensures hi { result.hi ≡ self.hi -ℤ o.lo }
         ensures encloses { (n m : ℤ) (d : ℕ) → Encloses self n d → Encloses o m d → Encloses result (n -ℤ m) d }
+        ensures narrow { (v w : ℕ) → HasWidth self v → HasWidth o w → HasWidth result (v + w) }
     {
         Ival {
             lo: self.lo - o.hi,
@@ -127,6 +129,7 @@ impl Ival {
         ensures lo { result.lo ≡ int_min (self.lo *ℤ k) (self.hi *ℤ k) }
         ensures hi { result.hi ≡ int_max (self.lo *ℤ k) (self.hi *ℤ k) }
         ensures encloses { (n : ℤ) (d : ℕ) → Encloses self n d → Encloses result (n *ℤ k) d }
+        ensures narrow { (w m : ℕ) → HasWidth self w → IsSized k m → HasWidth result (w * m) }
     {
         let low = multiple(self.lo, k);
         let high = multiple(self.hi, k);
@@ -147,6 +150,7 @@ impl Ival {
         ensures encloses { (n m : ℤ) (d e : ℕ) → Encloses self n d → Encloses o m e → Encloses result (n *ℤ m) (d * e) }
         ensures within { self.hi ≤ℤ pos fine → o.hi ≤ℤ pos fine → IsWithin result (pos 0) (pos fine) }
         ensures narrow { (v w : ℕ) → self.hi ≤ℤ pos fine → o.hi ≤ℤ pos fine → HasWidth self v → HasWidth o w → HasWidth result (v + w + 1) }
+        ensures width { (v w a b : ℕ) → self.hi ≤ℤ pos (a * fine) → o.hi ≤ℤ pos (b * fine) → HasWidth self v → HasWidth o w → HasWidth result (v * b + w * a + 1) }
         ensures cost { steps.new ≡ steps.old + 1 }
     {
         steps.tick();
@@ -214,6 +218,7 @@ impl Ival {
         ensures low { IsFloor result.lo self.lo (pos printed) }
         ensures high { IsCeiling result.hi self.hi (pos printed) }
         ensures encloses { (n : ℤ) (d : ℕ) → Encloses self n d → EnclosesPrinted result.lo result.hi n d }
+        ensures narrow { (w : ℕ) → HasWidth self w → result.hi ≤ℤ (result.lo +ℤ pos ((w + 999_999_999) / 10 ^ 9 + 1)) }
     {
         Nano {
             lo: printed_down(self.lo),

@@ -1,7 +1,8 @@
 use Rattle.std.proofs.Common.{◌*ℤ◌, ap, rules, arith, lit<}
 use Rattle.std.proofs.lemmas.Int.{ints}
 use Rattle.halo_num.specs.Ends.{Ends, fine}
-use Rattle.halo_num.proofs.Products.{encloses_mul, width_mul, one_mul}
+use Rattle.halo_num.proofs.Products.{encloses_mul, one_mul}
+use Rattle.halo_num.proofs.Widths.{width_mul}
 use Rattle.halo_num.proofs.Rounded.{ordered}
 use Rattle.halo_num.proofs.Ring.{mul_mono}
 use Rattle.halo_num.proofs.interval.Ival.mul.Goals as goal
@@ -30,10 +31,14 @@ returns-clause-within g c = λ x y.
     in let bh = ap (λ (v : Ends). v.hi) c.o.view_is
     in record { low = search rules; high = one_mul _ c.args.self.hi c.args.o.hi (search rules) (omega (arith, ints)) (omega (arith, ints)) x y (search rules) }
 
-pub returns-clause-narrow : goal.returns-clause-narrow
-returns-clause-narrow g c = λ v w x y p q.
+pub returns-clause-width : goal.returns-clause-width
+returns-clause-width g c = λ v w a b x y p q.
     let al = ap (λ (v : Ends). v.lo) c.self.view_is
     in let ah = ap (λ (v : Ends). v.hi) c.self.view_is
     in let bl = ap (λ (v : Ends). v.lo) c.o.view_is
     in let bh = ap (λ (v : Ends). v.hi) c.o.view_is
-    in record { near = width_mul _ _ c.args.self.lo c.args.self.hi c.args.o.lo c.args.o.hi v w (search rules) (search rules) c.requires.self_from c.requires.o_from (omega (arith, ints)) (omega (arith, ints)) x y (search rules) (search rules) p.near q.near }
+    in record { near = width_mul _ _ c.args.self.lo c.args.self.hi c.args.o.lo c.args.o.hi v w a b (search rules) (search rules) c.requires.self_from c.requires.o_from (omega (arith, ints)) (omega (arith, ints)) x y (search rules) (search rules) p.near q.near }
+
+pub returns-clause-narrow : goal.returns-clause-narrow
+returns-clause-narrow g c = λ v w x y p q.
+    let k = returns-clause-width g c v w 1 1 x y p q in record { near = omega (arith, ints, k.near) }

@@ -2,6 +2,7 @@ use Rattle.std.proofs.Common.{ap, rules, arith}
 use Rattle.std.proofs.lemmas.Int.{ints}
 use Rattle.halo_num.specs.Ends.{Ends}
 use Rattle.halo_num.proofs.Laws.{encloses_sub}
+use Rattle.halo_num.proofs.Widths.{width_sub}
 use Rattle.halo_num.proofs.interval.Ival.sub.Goals as goal
 
 pub invariant_of-result : goal.invariant_of-result
@@ -14,3 +15,6 @@ invariant_of-result c =
 
 pub returns-clause-encloses : goal.returns-clause-encloses
 returns-clause-encloses c = λ n m d p q. encloses_sub c.args.self c.args.o _ n m d (search rules) (search rules) p q
+
+pub returns-clause-narrow : goal.returns-clause-narrow
+returns-clause-narrow c = λ v w p q. width_sub c.args.self c.args.o _ v w (search rules) (search rules) p q
