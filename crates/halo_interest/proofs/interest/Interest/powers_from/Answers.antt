@@ -1,0 +1,34 @@
+use Rattle.std.proofs.Common.{arith, ℕ, ◌+◌, ◌*◌, pos}
+use Rattle.halo_interest.specs.Powers.{product_from, IsPower}
+use Rattle.halo_interest.specs.Rates.{discount_numerator, discount_denominator}
+use Rattle.halo_interest.proofs.Growth.{power_zero, first_powers, more_powers, power_more}
+use Rattle.halo_interest.proofs.interest.Interest.powers_from.Goals as goal
+
+pub loop-t-init : goal.loop-t-init
+loop-t-init g c =
+    let n : ℕ → ℕ = discount_numerator c.args.self.now
+    in let d : ℕ → ℕ = discount_denominator c.args.self.now
+    in let one = c.exact-power.ensures
+    in record {
+      powers = first_powers n d c.args.start c.exact-power.result one.lo one.hi;
+      power = power_zero n d c.args.start c.exact-power.result one.lo one.hi;
+      cost = omega arith;
+    }
+
+pub loop-t-preserved : goal.loop-t-preserved
+loop-t-preserved g c =
+    let n : ℕ → ℕ = discount_numerator c.args.self.now
+    in let d : ℕ → ℕ = discount_denominator c.args.self.now
+    in let s = c.args.start
+    in let t = c.loop-t.t
+    in let p = c.loop-t.invariant.power
+    in let y = c.year.ensures
+    in let r = c.mul-power.ensures
+    in let e = r.encloses (pos (product_from n s t)) (pos (n (s + t))) (product_from d s t) (d (s + t)) p.encloses y.encloses
+    in let w = r.narrow (3 * t) 1 p.within.high y.within.high p.narrow y.narrow
+    in let next : IsPower n d s (t + 1) c.mul-power.result = power_more n d s t c.mul-power.result e w (r.within p.within.high y.within.high)
+    in record {
+      powers = more_powers n d s t c.loop-t.values c.mul-power.result c.loop-t.invariant.powers (omega arith) next;
+      power = next;
+      cost = omega arith;
+    }

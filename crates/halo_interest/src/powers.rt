@@ -1,0 +1,43 @@
+ghost use Rattle.std.specs.Prelude.{◌≡◌, ℕ, ◌-◌, ◌*◌, ◌≤◌};
+ghost use Rattle.halo_interest.specs.Powers.{power_at, IsPower, ArePowers};
+
+use halo_num::Ival;
+use std::marker::Model;
+
+/// The last time of a contract, in years.
+pub const LAST_TIME: u16 = 200;
+
+/// The number of times, from 0 on.
+pub const TIMES: usize = 201;
+
+/// What 1 is worth at a start if it is due t years later, for each t up to time 200.
+///
+/// It is seen as the list of these values by t, each an interval of fine units.
+#[derive(Drop)]
+pub struct Powers {
+    pub(crate) values: [Ival; TIMES],
+}
+
+impl Model for Powers {
+    ghost use Rattle.std.specs.Prelude.{List};
+    ghost use Rattle.halo_num.specs.Ends.{Ends};
+
+    ghost Value = { List Ends };
+
+    ghost view = { λ powers. powers.values };
+}
+
+impl Powers {
+    /// The value at the start of 1 that is due `t` years later.
+    ///
+    /// Of powers from a start it encloses the product of the discounts of those t years, is at most
+    /// 3t fine units wide and lies from 0 to 1; with no years it is exactly 1. It is asked for times
+    /// up to 200, so for at most 200 less the start.
+    pub fn at(&self, t: u16) -> Ival
+        requires { t ≤ LAST_TIME }
+        ensures value { result ≡ power_at self.now t }
+        ensures power { (n d : ℕ → ℕ) (s : ℕ) → ArePowers n d s self.now → t ≤ LAST_TIME - s → IsPower n d s t result }
+    {
+        self.values[t as usize]
+    }
+}
