@@ -1,28 +1,33 @@
--- The fields of a record of a tables file.
-use Rattle.std.specs.Prelude.{◌≡◌, ℕ, ◌<◌, ◌≤◌, ◌==◌, ◌^◌, ◌≢◌, List, [], if◌then◌else◌, codes, drop, get_or, length, sum_by}
-use Rattle.halo_text.specs.Words.{IsName, IsNumber, number}
+-- The records of a tables file and their fields.
+use Rattle.std.specs.Prelude.{◌≡◌, ℕ, ◌<◌, ◌≤◌, ◌==◌, ◌≢◌, List, [], if◌then◌else◌, codes, drop, get_or, length, sum_by}
+use Rattle.halo_text.specs.Name.{IsName}
+use Rattle.halo_text.specs.Number.{number}
 
--- the field at a place, and nothing where there is none
+-- a record by its place, from 0, and no fields where there is none
+abbrev pub record_at : List (List (List ℕ)) → ℕ → List (List ℕ)
+record_at records i = get_or records i []
+
+-- the field at a place, from 0, and no bytes where there is none
 abbrev pub field : List (List ℕ) → ℕ → List ℕ
-field record_fields j = get_or record_fields j []
+field fields j = get_or fields j []
 
--- the greatest number that may stand at a place
-abbrev pub greatest : ℕ → ℕ
-greatest j = if j == 1 then 150 else 1000000000000
+-- the greatest number that may stand at a place behind the name: an age, and else survivors or leavers
+abbrev pub greatest_at : ℕ → ℕ
+greatest_at j = if j == 1 then 150 else 1000000000000
 
 -- the leavers of a row, over all causes
-abbrev pub leavers : List (List ℕ) → ℕ
-leavers row = sum_by number (drop 3 row)
+abbrev pub all_leavers : List (List ℕ) → ℕ
+all_leavers fields = sum_by number (drop 3 fields)
 
--- a cause is a name, and stands at no place before
-pub record IsNewCause (row : List (List ℕ)) (j : ℕ) : Type 0 where
-  pub name : IsName (field row j)
-  pub apart : (i : ℕ) → 3 ≤ i → i < j → field row i ≢ field row j
+-- the cause at a place of record 1 is a name, and no earlier cause has it
+pub record IsNewCause (fields : List (List ℕ)) (j : ℕ) : Type 0 where
+  pub name : IsName (field fields j)
+  pub apart : (i : ℕ) → 3 ≤ i → i < j → field fields i ≢ field fields j
 
--- record 1 as it has to be
-pub record IsHeader (row : List (List ℕ)) : Type 0 where
-  pub four : 4 ≤ length row
-  pub table : field row 0 ≡ codes "table"
-  pub age : field row 1 ≡ codes "age"
-  pub lives : field row 2 ≡ codes "l"
-  pub causes : (j : ℕ) → 3 ≤ j → j < length row → IsNewCause row j
+-- record 1 as it has to be: `table`, `age`, `l`, and the names of the causes, at least one
+pub record IsHeader (fields : List (List ℕ)) : Type 0 where
+  pub four : 4 ≤ length fields
+  pub table : field fields 0 ≡ codes "table"
+  pub age : field fields 1 ≡ codes "age"
+  pub survivors : field fields 2 ≡ codes "l"
+  pub causes : (j : ℕ) → 3 ≤ j → j < length fields → IsNewCause fields j

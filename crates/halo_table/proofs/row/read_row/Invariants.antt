@@ -1,7 +1,7 @@
 use Rattle.std.proofs.Common.{◌≡◌, ◌≤◌, ◌*◌, take}
 use Rattle.csv.specs.Records.{fields_of}
-use Rattle.halo_table.specs.Record.{leavers}
+use Rattle.halo_table.specs.Record.{all_leavers}
 use Rattle.halo_table.proofs.row.read_row.Given as goal
 
-abbrev pub invariant-loop-at : goal.invariant-loop-at
-invariant-loop-at l = (l.leaving ≡ leavers (take l.at (fields_of l.row))) × (l.leaving ≤ l.at * 1000000000000)
+abbrev pub invariant-loop-place : goal.invariant-loop-place
+invariant-loop-place l = (l.leaving ≡ all_leavers (take l.place (fields_of l.row))) × (l.leaving ≤ l.place * 1000000000000)

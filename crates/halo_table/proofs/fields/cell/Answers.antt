@@ -1,6 +1,5 @@
-use Rattle.std.proofs.Common.{rules, sym, ◌∙◌, ap}
 use Rattle.halo_table.proofs.Cells.{cell_some, cell_none}
-use Rattle.halo_table.proofs.row.cell.Goals as goal
+use Rattle.halo_table.proofs.fields.cell.Goals as goal
 
 pub returns-in-Some : goal.returns-in-Some
 returns-in-Some c = cell_some _ _ _ c.in-Some.ensures.value
