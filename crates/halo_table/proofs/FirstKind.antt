@@ -4,7 +4,7 @@ use Rattle.std.specs.Prelude.{Contains, IsTrue}
 use Rattle.std.proofs.lemmas.List.{length-map}
 use Rattle.halo_table.specs.DecrementTable.{DecrementTable}
 use Rattle.halo_table.specs.Seen.{seen_table}
-use Rattle.halo_table.specs.declared.held.Table.{Table}
+use Rattle.halo_table.specs.declared.table.Table.{Table}
 use Rattle.halo_text.specs.Number.{number}
 use Rattle.halo_table.specs.Record.{all_leavers, field}
 use Rattle.halo_table.specs.Faults.{Continues, IsFirst, OffAge, OffSurvivors, RowHolds, StepHolds, rank}

@@ -1,9 +1,10 @@
 -- The tables of some records, with one record more behind them.
-use Rattle.std.proofs.Common.{◌≡◌, ℕ, suc, ◌+◌, ◌<◌, ◌≤◌, List, [], ◌∷◌, ◌++◌, Bool, true, false, arith, ap, drop, get_or, length, refl, sym, take, ◌∙◌}
+use Rattle.std.proofs.Common.{◌≡◌, ℕ, ◌+◌, ◌<◌, ◌≤◌, ◌≢◌, List, [], ◌∷◌, ◌++◌, Bool, true, false, arith, ap, drop, get_or, length, map, refl, sym, take, ◌∙◌}
 use Rattle.std.specs.Prelude.{bytes_eq, if◌then◌else◌}
-use Rattle.std.proofs.lemmas.List.{drop-append-le, length-take, take_all, take_more}
+use Rattle.std.proofs.lemmas.List.{drop-append-le, length-take, map-append, take_all, take_more}
 use Rattle.std.proofs.lemmas.Slice.Eq.{bytes_eq-Decides}
 use Rattle.halo_table.specs.DecrementTable.{DecrementRow, DecrementTable}
+use Rattle.halo_table.specs.Faults.{names_before}
 use Rattle.halo_table.specs.Grouping.{grouped, one_row_table, with_record, written_row}
 use Rattle.halo_table.specs.Reading.{AreRowNumbers, IsLastName, with_last_row}
 use Rattle.halo_table.specs.declared.row.RowNumbers.{RowNumbers}
@@ -91,11 +92,21 @@ behind_name (t ∷ u ∷ ts) r =
 pub grouped_name : (rows : List (List (List ℕ))) (r : List (List ℕ)) → IsLastName (grouped (rows ++ r ∷ [])) (field r 0)
 grouped_name rows r = rw (grouped_behind rows r) (behind_name (grouped rows) r)
 
--- a row more in the last table makes no table more
-length-with_last_row : (ts : List DecrementTable) (row : DecrementRow) → length (with_last_row ts row) ≡ length ts
-length-with_last_row [] row = refl
-length-with_last_row (t ∷ []) row = refl
-length-with_last_row (t ∷ u ∷ ts) row = ap (λ n. suc n) (length-with_last_row (u ∷ ts) row)
+-- the names of some tables
+abbrev names : List DecrementTable → List (List ℕ)
+names tables = map (λ (t : DecrementTable). t.name) tables
+
+-- a row more in the last table makes no name more
+names-with_last_row : (ts : List DecrementTable) (row : DecrementRow) → names (with_last_row ts row) ≡ names ts
+names-with_last_row [] row = refl
+names-with_last_row (t ∷ []) row = refl
+names-with_last_row (t ∷ u ∷ ts) row = ap (λ (ns : List (List ℕ)). t.name ∷ ns) (names-with_last_row (u ∷ ts) row)
+
+-- the last table has one name
+last_name_one : (ts : List DecrementTable) (a b : List ℕ) → IsLastName ts a → IsLastName ts b → a ≡ b
+last_name_one [] a b h k = absurd h
+last_name_one (t ∷ []) a b h k = sym h ∙ k
+last_name_one (t ∷ u ∷ ts) a b h k = last_name_one (u ∷ ts) a b h k
 
 -- the rows of the first n records
 abbrev pub rows_before : List (List (List ℕ)) → ℕ → List (List (List ℕ))
@@ -108,26 +119,28 @@ pub rows_none : (all : List (List (List ℕ))) → rows_before all 1 ≡ []
 rows_none [] = refl
 rows_none (x ∷ all) = refl
 
--- a record that has the name of the record before is in the last table
-pub grouped_same_length : (all : List (List (List ℕ))) (n : ℕ) → 1 ≤ n → n + 1 < length all → field (record_at all n) 0 ≡ field (record_at all (n + 1)) 0
-    → length (grouped (rows_before all (n + 1 + 1))) ≡ length (grouped (rows_before all (n + 1)))
-grouped_same_length all n some room same =
-    let name : IsLastName (grouped (rows_before all (n + 1))) (field (record_at all (n + 1)) 0) = rw (rows_more all n some (omega arith), ← same) (grouped_name (rows_before all n) (record_at all n)) in
-    ap (λ (rs : List (List (List ℕ))). length (grouped rs)) (rows_more all (n + 1) (omega arith) room) ∙ ap (λ (ts : List DecrementTable). length ts) (grouped_last (rows_before all (n + 1)) (record_at all (n + 1)) name)
-    ∙ length-with_last_row (grouped (rows_before all (n + 1))) (written_row (record_at all (n + 1)))
+-- the last table of some rows has the name of the last row
+rows_name : (all : List (List (List ℕ))) (n : ℕ) → 1 ≤ n → n < length all → IsLastName (grouped (rows_before all (n + 1))) (field (record_at all n) 0)
+rows_name all n some room = rw (rows_more all n some room) (grouped_name (rows_before all n) (record_at all n))
 
--- a record more makes at most one table more
-length-behind : (ts : List DecrementTable) (r : List (List ℕ)) → length (behind ts r) ≤ length ts + 1
-length-behind [] r = omega arith
-length-behind (t ∷ []) r = go (bytes_eq t.name (field r 0)) refl
-  where
-    go : (p : Bool) → bytes_eq t.name (field r 0) ≡ p → length (behind (t ∷ []) r) ≤ length (t ∷ []) + 1
-    go true e = rw e (omega arith)
-    go false e = rw e (omega arith)
-length-behind (t ∷ u ∷ ts) r = omega (arith, length-behind (u ∷ ts) r)
+-- the first row makes the first name
+pub names_first : (all : List (List (List ℕ))) → 1 < length all → names_before all (1 + 1) ≡ field (record_at all 1) 0 ∷ []
+names_first all room = ap (λ (rs : List (List (List ℕ))). names (grouped rs)) (rw (rows_none all) at (rows_more all 1 (omega arith) room))
 
-pub grouped_length : (all : List (List (List ℕ))) (n : ℕ) → 1 ≤ n → n < length all → length (grouped (rows_before all (n + 1))) ≤ length (grouped (rows_before all n)) + 1
-grouped_length all n some room = rw (rows_more all n some room, grouped_behind (rows_before all n) (record_at all n)) (length-behind (grouped (rows_before all n)) (record_at all n))
+-- a row with the name of the row before makes no name more
+pub names_same : (all : List (List (List ℕ))) (n : ℕ) → 1 ≤ n → n + 1 < length all → field (record_at all n) 0 ≡ field (record_at all (n + 1)) 0 → names_before all (n + 1 + 1) ≡ names_before all (n + 1)
+names_same all n some room same =
+    let last : IsLastName (grouped (rows_before all (n + 1))) (field (record_at all (n + 1)) 0) = rw same at (rows_name all n some (omega arith)) in
+    ap (λ (rs : List (List (List ℕ))). names (grouped rs)) (rows_more all (n + 1) (omega arith) room) ∙ ap names (grouped_last (rows_before all (n + 1)) (record_at all (n + 1)) last)
+    ∙ names-with_last_row (grouped (rows_before all (n + 1))) (written_row (record_at all (n + 1)))
+
+-- a row with another name makes one name more
+pub names_new : (all : List (List (List ℕ))) (n : ℕ) → 1 ≤ n → n + 1 < length all → field (record_at all n) 0 ≢ field (record_at all (n + 1)) 0
+    → names_before all (n + 1 + 1) ≡ names_before all (n + 1) ++ field (record_at all (n + 1)) 0 ∷ []
+names_new all n some room differ =
+    let other : IsLastName (grouped (rows_before all (n + 1))) (field (record_at all (n + 1)) 0) → ⊥ = (λ l. differ (last_name_one (grouped (rows_before all (n + 1))) _ _ (rows_name all n some (omega arith)) l)) in
+    ap (λ (rs : List (List (List ℕ))). names (grouped rs)) (rows_more all (n + 1) (omega arith) room) ∙ ap names (grouped_new (rows_before all (n + 1)) (record_at all (n + 1)) other)
+    ∙ map-append (λ (t : DecrementTable). t.name) (grouped (rows_before all (n + 1))) (one_row_table (record_at all (n + 1)) ∷ [])
 
 -- a row kept behind those of the last table
 pub keeps_last : (old new : List DecrementTable) (row : DecrementRow) (fields : List (List ℕ)) (rows : List (List (List ℕ))) → new ≡ with_last_row old row → row ≡ written_row fields → IsLastName old (field fields 0) → old ≡ grouped rows

@@ -1,12 +1,13 @@
 -- What is looked up in sound tables.
-use Rattle.std.proofs.Common.{◌≡◌, ◌↔◌, ◌∙◌, ◌++◌, ℕ, zero, suc, ◌+◌, ◌<◌, ◌≤◌, Global, List, [], ◌∷◌, Vec, ap, arith, get_or, length, map, refl, set, sym}
+use Rattle.std.proofs.Common.{◌≡◌, ◌↔◌, ◌∙◌, ◌++◌, ℕ, zero, suc, ◌+◌, ◌<◌, ◌≤◌, Global, List, [], ◌∷◌, Vec, ap, arith, get_or, inl, inr, length, map, refl, set, sym}
+use Rattle.std.proofs.lemmas.Bool.{cases_order}
 use Rattle.std.proofs.lemmas.List.{get_or-map, length-map, map-append}
 use Rattle.halo_table.specs.DecrementTable.{DecrementRow, DecrementTable, empty_row, empty_table}
 use Rattle.halo_table.specs.Reading.{IsLastName, with_last_row}
 use Rattle.halo_table.specs.Seen.{seen_row, seen_table}
-use Rattle.halo_table.specs.Sound.{AreSoundRows, IsSoundRow}
-use Rattle.halo_table.specs.declared.held.Row.{Row}
-use Rattle.halo_table.specs.declared.held.Table.{Table}
+use Rattle.halo_table.specs.Sound.{AreApart, AreSoundRows, IsSoundRow}
+use Rattle.halo_table.specs.declared.table.Row.{Row}
+use Rattle.halo_table.specs.declared.table.Table.{Table}
 
 -- a table has a row
 pub rows_some : (causes : ℕ) (rows : List DecrementRow) → AreSoundRows causes rows → 1 ≤ length rows
@@ -79,3 +80,14 @@ row_known t d r k e lt at = rw (← e) (rw (length-map t.rows.items seen_row) lt
 -- the name of the table at a place
 pub seen_name : (tables : List Table) (i : ℕ) (t : Table) → i < length tables → t ≡ get_or tables i t → (get_or (map seen_table tables) i empty_table).name ≡ t.name
 seen_name tables i t h e = ap (λ (t : DecrementTable). t.name) (seen_at tables i t h e)
+
+-- tables of one name stand at one place, where no two names are equal
+pub same_place : (tables : List DecrementTable) (j k : ℕ) → AreApart (map (λ (t : DecrementTable). t.name) tables) → j < length tables → k < length tables
+    → (get_or tables j empty_table).name ≡ (get_or tables k empty_table).name → k ≡ j
+same_place tables j k apart lt kt e =
+    let count = length-map tables (λ (t : DecrementTable). t.name) in
+    let at : (i : ℕ) → i < length tables → get_or (map (λ (t : DecrementTable). t.name) tables) i [] ≡ (get_or tables i empty_table).name = (λ i room. get_or-map (λ (t : DecrementTable). t.name) tables i empty_table [] room) in
+    elim (cases_order k j) [
+      | inl same ↦ same
+      | inr h ↦ elim h [ inl less ↦ absurd (apart k j less (omega arith) (at k kt ∙ sym e ∙ sym (at j lt))) | inr more ↦ absurd (apart j k more (omega arith) (at j lt ∙ e ∙ sym (at k kt))) ]
+    ]

@@ -1,21 +1,21 @@
 -- The tables of a file without fault are sound.
-use Rattle.std.proofs.Common.{add-one, ◌≡◌, ◌≢◌, ℕ, zero, suc, ◌+◌, ◌-◌, ◌<◌, ◌≤◌, ◌⊎◌, List, [], ◌∷◌, Bool, true, false, arith, ap, drop, get_or, inl, inr, length, refl, sym, ◌∙◌, length-drop}
-use Rattle.std.specs.Prelude.{◌==◌, All, bytes_eq}
+use Rattle.std.proofs.Common.{add-one, ◌≡◌, ◌≢◌, ℕ, zero, suc, ◌+◌, ◌-◌, ◌<◌, ◌≤◌, ◌⊎◌, List, [], ◌∷◌, ◌++◌, Bool, true, false, arith, ap, drop, get_or, inl, inr, length, map, refl, sym, ◌∙◌, length-drop}
+use Rattle.std.specs.Prelude.{◌==◌, All, Contains, bytes_eq, codes}
 use Rattle.std.specs.Char.{is_ascii_alphabetic}
 use Rattle.std.proofs.lemmas.Bool.{cases_lt}
-use Rattle.std.proofs.lemmas.List.{get_or-drop, length-map, take_all}
+use Rattle.std.proofs.lemmas.List.{get_or_append_left, get_or_default, get_or_push, length_push, get_or-drop, length-map, take_all}
 use Rattle.std.proofs.lemmas.List.Elements.{All-cons, All-from_get_or, All-get_or, All-head, All-nil, All-tail}
 use Rattle.std.proofs.lemmas.List.Sums.{sum-map}
 use Rattle.std.proofs.lemmas.Slice.Eq.{bytes_eq-Decides}
 use Rattle.halo_text.specs.Name.{IsName, is_name_byte}
 use Rattle.halo_text.specs.Number.{number}
 use Rattle.halo_table.specs.DecrementTable.{DecrementRow, DecrementTable}
-use Rattle.halo_table.specs.Faults.{Clean, Continues, Holds, NoFault}
+use Rattle.halo_table.specs.Faults.{Clean, Continues, Holds, NoFault, names_before}
 use Rattle.halo_table.specs.Grouping.{grouped, one_row_table, tables_of, with_record, written_row}
 use Rattle.halo_table.specs.Record.{IsHeader, all_leavers, field, record_at}
-use Rattle.halo_table.specs.Sound.{IsSound, IsSoundRow, IsSoundTable}
+use Rattle.halo_table.specs.Sound.{AreApart, IsSound, IsSoundRow, IsSoundTable}
 use Rattle.halo_table.specs.declared.fault.TableKind.TheVariants as kind
-use Rattle.halo_table.proofs.Groups.{grouped_length, grouped_same_length, rows_before, rows_none}
+use Rattle.halo_table.proofs.Groups.{names_first, names_new, names_same, rows_none}
 use Rattle.halo_table.proofs.Walk.{next_is, not_one}
 
 -- a test that is not false is true
@@ -170,30 +170,62 @@ sound_from all four clean (row ∷ next ∷ rest) i some e =
             let other : field row 0 ≡ field next 0 → ⊥ = (λ q. cc ((bytes_eq-Decides fr.first.name (field row 0)).1 (fr.name ∙ sym q))) in
             rw e (All-cons (IsSoundTable (width - 3)) (one_row_table row) (fr.first ∷ fr.others) (sound_one width row facts (closed other)) known)
 
--- a file without fault has at most 64 tables
-few_from : (all : List (List (List ℕ))) (n : ℕ) → Clean all (length all) → n + 1 ≤ length all → length (grouped (rows_before all (n + 1))) ≤ 64
-few_from all zero clean room = rw (rows_none all) (omega arith)
-few_from all (suc zero) clean room =
-    let one = grouped_length all 1 (omega arith) (omega arith) in
-    let none : length (grouped (rows_before all 1)) ≡ 0 = rw (rows_none all) refl in
-    omega arith
-few_from all (suc (suc m)) clean room = rw (← add-one (suc m)) (few_next (suc m) (omega arith) (omega arith) (few_from all (suc m) clean (omega arith)))
+-- what is known of the names of the tables
+record NamesKnown (names : List (List ℕ)) : Type 0 where
+  few : length names ≤ 64
+  apart : AreApart names
+
+-- names with one more that is new
+apart_more : (names : List (List ℕ)) (name : List ℕ) → AreApart names → (Contains names name → ⊥) → AreApart (names ++ name ∷ [])
+apart_more names name apart new i j less lt =
+    let whole : length (names ++ name ∷ []) ≡ length names + 1 = length_push names name in
+    let early : (k : ℕ) → k < length names → get_or (names ++ name ∷ []) k [] ≡ get_or names k [] = (λ k room. get_or_append_left names (name ∷ []) [] k room) in
+    elim (cases_lt j (length names)) [
+      | inl room ↦ (λ e. apart i j less room (sym (early i (omega arith)) ∙ e ∙ early j room))
+      | inr le ↦ (λ e. new (
+        i,
+        omega arith,
+        get_or_default names i name [] (omega arith) ∙ sym (early i (omega arith)) ∙ e ∙ get_or_push names name [] j (omega arith),
+      ))
+    ]
+
+-- no names, and one name
+apart_none : AreApart []
+apart_none i j less lt = absurd (omega arith)
+
+apart_one : (name : List ℕ) → AreApart (name ∷ [])
+apart_one name i j less lt = absurd (omega arith)
+
+-- the names with the next row
+names_next : (all : List (List (List ℕ))) (n : ℕ) → Clean all (length all) → 1 ≤ n → n + 1 < length all → NamesKnown (names_before all (n + 1)) → NamesKnown (names_before all (n + 1 + 1))
+names_next all n clean some room known = go (bytes_eq (field (record_at all n) 0) (field (record_at all (n + 1)) 0)) refl
   where
-    back : (n : ℕ) → field (record_at all (n + 1 - 1)) 0 ≡ field (record_at all (n + 1)) 0 → field (record_at all n) 0 ≡ field (record_at all (n + 1)) 0
-    back n e = let b : n + 1 - 1 ≡ n = omega arith in rw b at e
+    go : (p : Bool) → bytes_eq (field (record_at all n) 0) (field (record_at all (n + 1)) 0) ≡ p → NamesKnown (names_before all (n + 1 + 1))
+    go true e = rw (names_same all n some room ((bytes_eq-Decides (field (record_at all n) 0) (field (record_at all (n + 1)) 0)).0 e)) known
+    go false e =
+        let differ : field (record_at all n) 0 ≢ field (record_at all (n + 1)) 0 = (λ q. cc ((bytes_eq-Decides (field (record_at all n) 0) (field (record_at all (n + 1)) 0)).1 q)) in
+        let back : n + 1 - 1 ≡ n = omega arith in
+        let starts : Continues (n + 1 == 1) (record_at all (n + 1 - 1)) (record_at all (n + 1)) → ⊥ = (λ co. differ (rw back at co.1)) in
+        let more : length (names_before all (n + 1) ++ field (record_at all (n + 1)) 0 ∷ []) ≡ length (names_before all (n + 1)) + 1 = length_push (names_before all (n + 1)) (field (record_at all (n + 1)) 0) in
+        let full : 64 ≤ length (names_before all (n + 1)) → ⊥ = (λ le. clean (n + 1) room kind.TooMany (inr (omega arith, starts, le))) in
+        rw (names_new all n some room differ) (record {
+          few = omega arith;
+          apart = apart_more (names_before all (n + 1)) (field (record_at all (n + 1)) 0) known.apart (λ there. clean (n + 1) room kind.Again (omega arith, (starts, there)));
+        })
 
-    few_next : (n : ℕ) → 1 ≤ n → n + 1 < length all → length (grouped (rows_before all (n + 1))) ≤ 64 → length (grouped (rows_before all (n + 1 + 1))) ≤ 64
-    few_next n some lt before =
-        let more = grouped_length all (n + 1) (omega arith) lt in
-        let not_more : 64 < length (grouped (rows_before all (n + 1 + 1))) → ⊥ = (λ high. clean (n + 1) lt kind.TooMany (inr (
-          omega arith,
-          (λ co. let same = grouped_same_length all n some lt (back n co.1) in absurd (omega arith)),
-          rw (length-map (grouped (rows_before all (n + 1))) (λ (t : DecrementTable). t.name)) (omega arith),
-        ))) in
-        omega (arith, not_more)
+names_known : (all : List (List (List ℕ))) (n : ℕ) → Clean all (length all) → n + 1 ≤ length all → NamesKnown (names_before all (n + 1))
+names_known all zero clean room = rw (rows_none all) (record { few = omega arith; apart = apart_none })
+names_known all (suc zero) clean room = rw (names_first all (omega arith)) (record { few = omega arith; apart = apart_one (field (record_at all 1) 0) })
+names_known all (suc (suc m)) clean room = rw (← add-one (suc m)) (names_next all (suc m) clean (omega arith) (omega arith) (names_known all (suc m) clean (omega arith)))
 
--- the tables of a file without fault
-pub sound_tables : (all : List (List (List ℕ))) → IsHeader (record_at all 0) → NoFault all → IsSound (tables_of all)
+-- no two causes of record 1 are equal
+apart_causes : (header : List (List ℕ)) → IsHeader header → AreApart (drop 3 header)
+apart_causes header h i j less lt =
+    let end = length-drop 3 header in
+    rw (get_or-drop 3 header i [], get_or-drop 3 header j []) ((h.causes (3 + j) (omega arith) (omega arith)).apart (3 + i) (omega arith) (omega arith))
+
+-- the tables of a file without fault are sound, where its record 1 is as it has to be
+sound_tables : (all : List (List (List ℕ))) → IsHeader (record_at all 0) → NoFault all → IsSound (tables_of all)
 sound_tables all header fine =
     let four = header.four in
     let causes : length (drop 3 (record_at all 0)) ≡ length (record_at all 0) - 3 = length-drop 3 (record_at all 0) in
@@ -202,12 +234,41 @@ sound_tables all header fine =
       some_causes = omega arith;
       few_causes = omega arith;
       causes = All-from_get_or IsName (drop 3 (record_at all 0)) [] (λ i lt. rw (get_or-drop 3 (record_at all 0) i []) (header.causes (3 + i) (omega arith) (omega arith)).name);
-      few_tables = whole;
+      few_tables = let few = known.few in omega (arith, length-map (grouped (drop 1 all)) (λ (t : DecrementTable). t.name));
+      causes_apart = apart_causes (record_at all 0) header;
+      tables_apart = known.apart;
       tables = rw causes (sound_from all header.four fine.1 (drop 1 all) 1 (omega arith) refl);
     }
   where
-    whole : length (grouped (drop 1 all)) ≤ 64
-    whole =
+    known : NamesKnown (map (λ (t : DecrementTable). t.name) (grouped (drop 1 all)))
+    known =
         let end : length all - 1 + 1 ≡ length all = let some = fine.0 in omega arith in
-        let h = few_from all (length all - 1) fine.1 (omega arith) in
+        let h = names_known all (length all - 1) fine.1 (omega arith) in
         rw (end, take_all (length all) all (omega arith)) at h
+
+-- a record 1 of which it is absurd that it is none is one
+stable_header : (fields : List (List ℕ)) → ((IsHeader fields → ⊥) → ⊥) → IsHeader fields
+stable_header fields h = record {
+  four = stable_below 4 (length fields) (λ no. h (λ x. no x.four));
+  table = stable_bytes (field fields 0) (codes "table") (λ no. h (λ x. no x.table));
+  age = stable_bytes (field fields 1) (codes "age") (λ no. h (λ x. no x.age));
+  survivors = stable_bytes (field fields 2) (codes "l") (λ no. h (λ x. no x.survivors));
+  causes = (λ j low high. record {
+    name = stable_name (field fields j) (λ no. h (λ x. no (x.causes j low high).name));
+    apart = (λ i from less e. h (λ x. (x.causes j low high).apart i from less e));
+  });
+}
+  where
+    stable_below : (a b : ℕ) → ((a ≤ b → ⊥) → ⊥) → a ≤ b
+    stable_below a b h = elim (cases_lt b a) [ inl lt ↦ absurd (h (λ le. absurd (omega arith))) | inr le ↦ le ]
+
+    stable_bytes : (xs ys : List ℕ) → (xs ≢ ys → ⊥) → xs ≡ ys
+    stable_bytes xs ys h = go (bytes_eq xs ys) refl
+      where
+        go : (p : Bool) → bytes_eq xs ys ≡ p → xs ≡ ys
+        go true e = (bytes_eq-Decides xs ys).0 e
+        go false e = absurd (h (λ q. cc ((bytes_eq-Decides xs ys).1 q)))
+
+-- the tables of a file without fault are sound
+pub sound_of_fine : (all : List (List (List ℕ))) → NoFault all → IsSound (tables_of all)
+sound_of_fine all fine = sound_tables all (stable_header (record_at all 0) (λ no. fine.1 0 fine.0 kind.Header (refl, no))) fine

@@ -2,7 +2,6 @@
 use Rattle.std.proofs.Common.{◌≡◌, ◌≢◌, ◌↔◌, ℕ, suc, ◌+◌, ◌-◌, ◌<◌, ◌≤◌, List, [], ◌∷◌, Bool, true, false, arith, drop, get_or, length, refl, sym, ap, ◌∙◌, add-zero, inl, inr}
 use Rattle.std.specs.Prelude.{◌==◌, IsTrue, Result, Ok, Err, OnOk}
 use Rattle.std.specs.Result.{is_err}
-use Rattle.std.proofs.lemmas.Bool.{cases_order}
 use Rattle.std.proofs.lemmas.List.{drop-drop, get_or-drop, length-drop}
 use borrow.Author.Count.{below_more}
 use borrow.Author.Tests.{eqb-false, eqb-true}
@@ -262,36 +261,3 @@ on_ok (Err x) e h = cc e
 pub ok_then : {P Q : Type 0} {T E : Type 0} (r : Result T E) → OnOk r P → (P → Q) → OnOk r Q
 ok_then (Ok x) h f = f h
 ok_then (Err x) h f = h
-
--- a first fault is no later than another one's row
-no_later : (all : List (List (List ℕ))) (a b : ℕ) (j k : TableKind) → IsFirstFault all a j → IsFirstFault all b k → a < b → ⊥
-no_later all a b j k f g lt =
-    let low = f.counted in
-    g.clean (a - 1) (omega arith) j f.kind_first.here
-
-no_before : (all : List (List (List ℕ))) (i : ℕ) (j k : TableKind) → IsFirst (Holds all i) j → IsFirst (Holds all i) k → rank j < rank k → ⊥
-no_before all i j k f g lt = g.none_before j lt f.here
-
--- there is at most one first fault
-pub first_is_one : (all : List (List (List ℕ))) (a b : ℕ) (j k : TableKind) → IsFirstFault all a j → IsFirstFault all b k → (a ≡ b) × (rank j ≡ rank k)
-first_is_one all a b j k f g =
-    let same : a ≡ b = elim (cases_order a b) [ inl e ↦ e | inr h ↦ elim h [ inl lt ↦ absurd (no_later all a b j k f g lt) | inr lt ↦ absurd (no_later all b a k j g f lt) ] ] in
-    let g2 : IsFirst (Holds all (a - 1)) k = rw same g.kind_first in (
-      same,
-      elim (cases_order (rank j) (rank k)) [
-        | inl e ↦ e
-        | inr h ↦ elim h [
-          | inl lt ↦ absurd (no_before all (a - 1) j k f.kind_first g2 lt)
-          | inr lt ↦ absurd (no_before all (a - 1) k j g2 f.kind_first lt)
-        ]
-      ],
-    )
-
--- a file without fault has no first fault
-pub fine_or_fault : (all : List (List (List ℕ))) (a : ℕ) (k : TableKind) → NoFault all → IsFirstFault all a k → ⊥
-fine_or_fault all a k fine f =
-    let one = f.counted in
-    elim f.within [
-      | inl e ↦ fine.1 (a - 1) (let some = fine.0 in omega arith) k f.kind_first.here
-      | inr le ↦ fine.1 (a - 1) (omega arith) k f.kind_first.here
-    ]

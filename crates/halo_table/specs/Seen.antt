@@ -1,8 +1,8 @@
 -- The tables as they lie in memory, seen as plain data.
-use Rattle.std.specs.Prelude.{map}
-use Rattle.halo_table.specs.DecrementTable.{DecrementRow, DecrementTable}
-use Rattle.halo_table.specs.declared.held.Row.{Row}
-use Rattle.halo_table.specs.declared.held.Table.{Table}
+use Rattle.std.specs.Prelude.{ℕ, List, map}
+use Rattle.halo_table.specs.DecrementTable.{DecrementRow, DecrementTable, TableFile}
+use Rattle.halo_table.specs.declared.table.Row.{Row}
+use Rattle.halo_table.specs.declared.table.Table.{Table}
 
 -- a row in memory as a row of a table
 abbrev pub seen_row : Row → DecrementRow
@@ -11,3 +11,7 @@ seen_row row = record { survivors = row.survivors; leavers = row.leavers.items }
 -- a table in memory as a table
 abbrev pub seen_table : Table → DecrementTable
 seen_table t = record { name = t.name; first_age = t.first_age; rows = map seen_row t.rows.items }
+
+-- some causes and tables in memory as what a file holds
+abbrev pub seen_file : List (List ℕ) → List Table → TableFile
+seen_file causes tables = record { causes = causes; tables = map seen_table tables }

@@ -1,5 +1,5 @@
 -- What holds of the tables of every file without fault.
-use Rattle.std.specs.Prelude.{◌≡◌, ℕ, ◌+◌, ◌≤◌, List, [], ◌∷◌, All, length, sum}
+use Rattle.std.specs.Prelude.{◌≡◌, ◌≢◌, ℕ, ◌+◌, ◌<◌, ◌≤◌, List, [], ◌∷◌, All, get_or, length, map, sum}
 use Rattle.halo_text.specs.Name.{IsName}
 use Rattle.halo_table.specs.DecrementTable.{DecrementRow, DecrementTable, TableFile}
 
@@ -22,10 +22,16 @@ pub record IsSoundTable (causes : ℕ) (t : DecrementTable) : Type 0 where
   pub ages : t.first_age + length t.rows ≤ 151
   pub rows : AreSoundRows causes t.rows
 
--- a file: 1 to 8 causes with names, and at most 64 tables
+-- no two of some names are equal
+abbrev pub AreApart : List (List ℕ) → Type 0
+AreApart names = (i j : ℕ) → i < j → j < length names → get_or names i [] ≢ get_or names j []
+
+-- a file: 1 to 8 causes with names, no two equal, and at most 64 tables, no two of one name
 pub record IsSound (file : TableFile) : Type 0 where
   pub some_causes : 1 ≤ length file.causes
   pub few_causes : length file.causes ≤ 8
   pub causes : All IsName file.causes
+  pub causes_apart : AreApart file.causes
   pub few_tables : length file.tables ≤ 64
+  pub tables_apart : AreApart (map (λ t. t.name) file.tables)
   pub tables : All (IsSoundTable (length file.causes)) file.tables

@@ -8,7 +8,7 @@ use std::marker::Model;
 
 /// A name: an ASCII letter, and then ASCII letters, digits and `_`, 1 to 32 bytes, seen as the
 /// list of these bytes. Names compare byte by byte.
-#[derive(Drop)]
+#[derive(Clone, Drop)]
 pub struct Name {
     text: ArrayVec<u8, LONGEST_NAME>,
 }

@@ -11,10 +11,11 @@ ghost use Rattle.halo_table.specs.Seen.{seen_row, seen_table};
 
 use crate::fault::{TableFault, TableKind, TablesError};
 use crate::fields::{FIELDS_BEFORE_CAUSES, cell, is_header};
-use crate::held::{MOST_CAUSES, Row, Table, Tables};
+use crate::held::Tables;
 use crate::naming::Name;
 use crate::row::{MOST_FIELDS, RowNumbers};
 use crate::step::read_step;
+use crate::table::{MOST_CAUSES, Row, Table};
 use arrayvec::ArrayVec;
 use csv::ByteRecord;
 use halo_records::Records;

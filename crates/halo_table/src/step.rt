@@ -9,8 +9,8 @@ ghost use Rattle.halo_table.specs.Seen.{seen_table};
 
 use crate::fault::TableKind;
 use crate::fields::cell;
-use crate::held::Table;
 use crate::row::{RowNumbers, read_row};
+use crate::table::Table;
 use csv::ByteRecord;
 
 /// The most tables that a file may hold.

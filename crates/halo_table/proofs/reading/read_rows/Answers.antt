@@ -3,7 +3,7 @@ use Rattle.csv.specs.Records.{fields_of}
 use Rattle.halo_table.specs.DecrementTable.{DecrementTable}
 use Rattle.halo_table.specs.Grouping.{grouped}
 use Rattle.halo_table.specs.Seen.{seen_table}
-use Rattle.halo_table.specs.declared.held.Table.{Table}
+use Rattle.halo_table.specs.declared.table.Table.{Table}
 use Rattle.halo_table.proofs.Groups.{rows_all, rows_before, rows_more}
 use Rattle.halo_table.proofs.Walk.{between_is, closed_fault, finish, leaving_fits, next_is, not_first, on_ok, open_is, step_fault, step_fine, tested_closed}
 use Rattle.halo_table.proofs.reading.read_rows.Goals as goal

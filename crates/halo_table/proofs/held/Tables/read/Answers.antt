@@ -1,6 +1,6 @@
 use Rattle.std.proofs.Common.{refl}
 use Rattle.halo_records.specs.Records.{records_of}
-use Rattle.halo_table.proofs.Walk.{fine_or_fault}
+use Rattle.halo_table.proofs.FirstFault.{fine_or_fault}
 use Rattle.halo_table.proofs.held.Tables.read.Goals as goal
 
 pub returns-in-Err-Fault : goal.returns-in-Err-Fault
