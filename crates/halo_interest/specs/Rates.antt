@@ -1,5 +1,5 @@
 -- Yearly interest: fractions in the order of their years, each from its year until the next one's.
-use Rattle.std.specs.Prelude.{ℕ, ◌+◌, ◌^◌, ◌≤◌, List, [], ◌∷◌, nat_le, if◌then◌else◌}
+use Rattle.std.specs.Prelude.{◌≡◌, ℕ, ◌+◌, ◌-◌, ◌^◌, ◌<◌, ◌≤◌, List, [], ◌∷◌, length, get_or, nat_le, if◌then◌else◌}
 use Rattle.halo_interest.specs.declared.rate.Rate.{Rate}
 
 -- p / q is a fraction of interest
@@ -12,20 +12,39 @@ pub record IsFraction (p q : ℕ) : Type 0 where
 abbrev pub level : ℕ → ℕ → List Rate
 level p q = record { year = 0; p = p; q = q } ∷ []
 
--- the first fraction, or no interest where there is none
-abbrev pub first_of : List Rate → Rate
-first_of [] = record { year = 0; p = 0; q = 1 }
-first_of (r ∷ rs) = r
+-- no interest in any year
+abbrev pub no_interest : Rate
+no_interest = record { year = 0; p = 0; q = 1 }
 
--- the fraction of year k, where r holds before those of the list: the last that has begun
+-- the fraction at a place of the list
+abbrev pub rate_at : List Rate → ℕ → Rate
+rate_at rates i = get_or rates i no_interest
+
+-- the fractions are those of an interest: 1 to 8 of them, the first from year 0, the years going up to 199 at most
+pub record IsInterest (rates : List Rate) : Type 0 where
+  pub some : 1 ≤ length rates
+  pub room : length rates ≤ 8
+  pub start : (rate_at rates 0).year ≡ 0
+  pub fractions : (i : ℕ) → i < length rates → IsFraction (rate_at rates i).p (rate_at rates i).q
+  pub years : (i : ℕ) → i < length rates → (rate_at rates i).year ≤ 199
+  pub increasing : (i : ℕ) → i + 1 < length rates → (rate_at rates i).year < (rate_at rates (i + 1)).year
+
+-- p / q from a year on may follow the fractions: the year is after the last one's, and there is room
+pub record CanFollow (rates : List Rate) (year p q : ℕ) : Type 0 where
+  pub fraction : IsFraction p q
+  pub year_in : year ≤ 199
+  pub later : (rate_at rates (length rates - 1)).year < year
+  pub room : length rates < 8
+
+-- the fraction of year k where r stands before the others: each holds until the next one's year
 abbrev pub latest_of : Rate → List Rate → ℕ → Rate
 latest_of r [] k = r
-latest_of r (s ∷ rest) k = if nat_le s.year k then latest_of s rest k else r
+latest_of r (next ∷ rest) k = if nat_le next.year k then latest_of next rest k else r
 
 -- the fraction of year k
 abbrev pub rate_of : List Rate → ℕ → Rate
-rate_of [] k = first_of []
-rate_of (r ∷ rest) k = latest_of r rest k
+rate_of [] k = no_interest
+rate_of (first ∷ rest) k = latest_of first rest k
 
 -- the discount of year k is q / (p + q), what 1 at its end is worth at its beginning
 abbrev pub discount_numerator : List Rate → ℕ → ℕ

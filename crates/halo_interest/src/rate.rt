@@ -1,3 +1,6 @@
+ghost use Rattle.std.specs.Prelude.{◌↔◌, IsTrue};
+ghost use Rattle.halo_interest.specs.Rates.{IsFraction};
+
 /// The greatest P and the greatest Q of a fraction of interest.
 pub const LARGEST_PART: u64 = 1_000_000_000;
 
@@ -10,4 +13,20 @@ pub struct Rate {
     pub p: u64,
     /// The interest's denominator, from 1 to 10^9.
     pub q: u64,
+}
+
+impl Rate {
+    /// No interest in any year.
+    pub(crate) const NONE: Rate = Rate {
+        year: 0,
+        p: 0,
+        q: 1,
+    };
+}
+
+/// Whether p / q is a fraction of interest: `q` is not 0, and neither is above 10^9.
+pub fn is_fraction(p: u64, q: u64) -> bool
+    ensures { IsTrue result ↔ IsFraction p q }
+{
+    q != 0 && p <= LARGEST_PART && q <= LARGEST_PART
 }

@@ -35,6 +35,33 @@ fn discounts(rt: HostRuntime) -> Result<(), Fail> {
     Ok(())
 }
 
+#[test]
+fn rates(rt: HostRuntime) -> Result<(), Fail> {
+    let mut interest = Interest::new(1, 1).ok_or("1/1 is a fraction")?;
+    let refused = [(0, 0, 1), (200, 0, 1), (5, 1, 0), (5, LARGEST_PART + 1, 1)];
+    for (year, p, q) in refused {
+        assert_eq!(rt; interest.add_from(year, p, q), None, "{year} {p}/{q}");
+    }
+    assert_eq!(rt; interest.add_from(5, 0, 1), Some(()));
+    assert_eq!(rt; interest.add_from(5, 1, 4), None);
+    assert_eq!(rt; interest.add_from(199, 1, 4), Some(()));
+    assert_eq!(rt; interest.fractions(), 3);
+    assert_eq!(rt; interest.fraction(2), (199, 1, 4));
+    let by_year = [
+        (0, (1, 1)),
+        (4, (1, 1)),
+        (5, (0, 1)),
+        (198, (0, 1)),
+        (199, (1, 4)),
+    ];
+    for (k, rate) in by_year {
+        assert_eq!(rt; interest.rate(k), rate, "in year {k}");
+    }
+    assert_exact(&rt, interest.discount(), 500_000_000_000_000_000);
+    assert_exact(&rt, interest.year(199), 800_000_000_000_000_000);
+    Ok(())
+}
+
 fn counted_powers<L: Ledger>(rt: &impl Abort, blank: Blank) -> Result<(), Fail>
     requires name { blank.name ≡ L.name }
     requires parts { blank.parts ≡ L.parts }
@@ -45,8 +72,14 @@ fn counted_powers<L: Ledger>(rt: &impl Abort, blank: Blank) -> Result<(), Fail>
     let powers = interest.powers(&mut steps);
     assert_exact(rt, powers.at(0), 1_000_000_000_000_000_000);
     assert_exact(rt, powers.at(3), 125_000_000_000_000_000);
-    let late = interest.powers_from(198, &mut steps);
-    assert_exact(rt, late.at(2), 250_000_000_000_000_000);
+
+    // A half for each of the years 0 and 1, then no discount, and four fifths in the last year.
+    let mut varying = interest;
+    assert_eq!(rt; varying.add_from(2, 0, 1), Some(()));
+    assert_eq!(rt; varying.add_from(199, 1, 4), Some(()));
+    let late = varying.powers_from(1, &mut steps);
+    assert_exact(rt, late.at(198), 500_000_000_000_000_000);
+    assert_exact(rt, late.at(199), 400_000_000_000_000_000);
     Ok(())
 }
 
