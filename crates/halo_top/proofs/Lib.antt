@@ -1,0 +1,10 @@
+mod Calls
+mod Cuts
+mod Digits
+mod Files
+mod InterestLine
+mod LifeLine
+mod OneLifeForm
+mod PayLine
+mod Told
+mod Words

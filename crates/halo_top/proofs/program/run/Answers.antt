@@ -1,0 +1,18 @@
+use Rattle.halo_top.specs.Refusal.{line_of, status_of}
+use Rattle.halo_top.proofs.Calls.{calls_for_line, calls_for_report}
+use Rattle.halo_top.proofs.program.run.Goals as goal
+
+pub returns-in-Ok-clause-answer : goal.returns-in-Ok-clause-answer
+returns-in-Ok-clause-answer g c = λ fine memory.
+    let written = c.write-in-Ok.ensures.written fine in
+    (c.in-Ok.text.items, rw written.0 (calls_for_report _ _ c.in-Some.command c.in-Ok.text c.in-Some.ensures c.in-Ok.ensures.answer), rw c.deref.ensures.value at written.1)
+
+pub returns-in-Ok-clause-write_fault : goal.returns-in-Ok-clause-write_fault
+returns-in-Ok-clause-write_fault g c = λ failed.
+    let fault = c.write-in-Ok.ensures.failed failed in
+    (fault.0, (0, c.in-Ok.text.items, calls_for_report _ _ c.in-Some.command c.in-Ok.text c.in-Some.ensures c.in-Ok.ensures.answer, rw c.deref.ensures.value at fault.1))
+
+pub returns-in-Err-Refused-clause-write_fault : goal.returns-in-Err-Refused-clause-write_fault
+returns-in-Err-Refused-clause-write_fault g c = λ failed.
+    let fault = c.write-in-Err-Refused.ensures.failed failed in
+    (fault.0, (status_of c.in-Err-Refused.refusal, line_of c.in-Err-Refused.refusal, calls_for_line _ _ c.in-Some.command c.in-Err-Refused.refusal c.in-Some.ensures (rw c.in-Err-Refused.field-0-is at c.in-Err-Refused.ensures.answer), rw c.line-in-Err-Refused.ensures at fault.1))

@@ -1,0 +1,55 @@
+-- The files that a command reads: what is answered for each, as far as the shelf tells it.
+use Rattle.std.specs.Prelude.{◌≡◌, ℕ, ◌<◌, ◌≤◌, List, length, Option, IfSome, Result, Ok, Err, vec_len, ⊤}
+use Rattle.std.specs.Global.{Vec}
+use Rattle.halo_records.specs.Records.{records_of}
+use Rattle.halo_table.specs.DecrementTable.{TableFile}
+use Rattle.halo_table.specs.FirstForm.{HasFirstForm}
+use Rattle.halo_table.specs.Grouping.{tables_of}
+use Rattle.halo_top.specs.OneLife.{HasOneLifeForm, Writes}
+use Rattle.halo_top.specs.declared.one_life.OneLife.{OneLife}
+use Rattle.halo_top.specs.declared.refusal.InputFile.{InputFile}
+use Rattle.halo_top.specs.declared.refusal.InputFile.TheVariants as file
+use Rattle.halo_top.specs.declared.refusal.Refusal.TheVariants as refusal
+use Rattle.halo_top.specs.declared.refusal.Stop.{Stop}
+use Rattle.halo_top.specs.declared.refusal.Stop.TheVariants as stop
+
+-- the greatest number of bytes of a file
+abbrev pub limit_of : InputFile → ℕ
+limit_of file.Tables = 16777216
+limit_of file.Contract = 65536
+
+-- the bytes of a tables file are few enough, and have the form that is valued
+pub record AreTables (bytes : List ℕ) : Type 0 where
+  pub short : length bytes ≤ limit_of file.Tables
+  pub form : HasFirstForm (records_of bytes)
+
+-- the bytes of a contract file are few enough, and have the form that is valued with these tables
+pub record IsContract (tables : TableFile) (bytes : List ℕ) : Type 0 where
+  pub short : length bytes ≤ limit_of file.Contract
+  pub form : HasOneLifeForm tables bytes
+
+-- the bytes of a file, or a refusal: `Read` only where its count of faults rose, and `TooLong` exactly where the told file is longer than its limit
+abbrev pub LoadsFile : InputFile → Option (List ℕ) → Type 0 → Result (Vec ℕ) Stop → Type 0
+LoadsFile f told rose (Ok bytes) = (vec_len bytes ≤ limit_of f) × IfSome told (λ all. bytes.items ≡ all)
+LoadsFile f told rose (Err (stop.Refused (refusal.Read g))) = (g ≡ f) × rose
+LoadsFile f told rose (Err (stop.Refused (refusal.TooLong g))) = (g ≡ f) × IfSome told (λ all. limit_of f < length all)
+LoadsFile f told rose (Err stop.Memory) = ⊤
+LoadsFile f told rose (Err _) = ⊥
+
+-- the tables of a tables file, or why there are none
+abbrev pub LoadsTables : Option (List ℕ) → Type 0 → Result TableFile Stop → Type 0
+LoadsTables told rose (Ok tables) = IfSome told (λ all. AreTables all × (tables ≡ tables_of (records_of all)))
+LoadsTables told rose (Err (stop.Refused (refusal.Read file.Tables))) = rose
+LoadsTables told rose (Err (stop.Refused (refusal.TooLong file.Tables))) = IfSome told (λ all. limit_of file.Tables < length all)
+LoadsTables told rose (Err (stop.Refused (refusal.NotBuilt file.Tables))) = IfSome told (λ all. (length all ≤ limit_of file.Tables) × (HasFirstForm (records_of all) → ⊥))
+LoadsTables told rose (Err stop.Memory) = ⊤
+LoadsTables told rose (Err _) = ⊥
+
+-- the contract that a contract file writes with these tables, or why there is none
+abbrev pub LoadsContract : TableFile → Option (List ℕ) → Type 0 → Result OneLife Stop → Type 0
+LoadsContract tables told rose (Ok contract) = (bytes : List ℕ) × (length bytes ≤ limit_of file.Contract) × Writes tables bytes contract × IfSome told (λ all. bytes ≡ all)
+LoadsContract tables told rose (Err (stop.Refused (refusal.Read file.Contract))) = rose
+LoadsContract tables told rose (Err (stop.Refused (refusal.TooLong file.Contract))) = IfSome told (λ all. limit_of file.Contract < length all)
+LoadsContract tables told rose (Err (stop.Refused (refusal.NotBuilt file.Contract))) = IfSome told (λ all. (length all ≤ limit_of file.Contract) × (HasOneLifeForm tables all → ⊥))
+LoadsContract tables told rose (Err stop.Memory) = ⊤
+LoadsContract tables told rose (Err _) = ⊥

@@ -1,0 +1,67 @@
+-- What a run has to answer: a status and a text, from the words, the files that the shelf tells, and the files of which the count of faults rose.
+use Rattle.std.specs.Prelude.{◌≡◌, ℕ, ◌<◌, ◌≤◌, ◌⊎◌, List, length, Option, IfSome, Result, Ok, Err, ⊤}
+use Rattle.std.specs.Global.{Vec}
+use Rattle.halo_num.specs.declared.nano.Nano.{Nano}
+use Rattle.halo_records.specs.Records.{records_of}
+use Rattle.halo_table.specs.FirstForm.{HasFirstForm}
+use Rattle.halo_table.specs.Grouping.{tables_of}
+use Rattle.halo_top.specs.Command.{AsksValue, IsCommand}
+use Rattle.halo_top.specs.Input.{AreTables, IsContract, limit_of}
+use Rattle.halo_top.specs.OneLife.{HasOneLifeForm}
+use Rattle.halo_top.specs.Refusal.{line_of, status_of}
+use Rattle.halo_top.specs.Report.{report_of}
+use Rattle.halo_top.specs.declared.command.Command.{Command}
+use Rattle.halo_top.specs.declared.command.Command.TheVariants as command
+use Rattle.halo_top.specs.declared.refusal.InputFile.TheVariants as file
+use Rattle.halo_top.specs.declared.refusal.Refusal.{Refusal}
+use Rattle.halo_top.specs.declared.refusal.Refusal.TheVariants as refusal
+use Rattle.halo_top.specs.declared.refusal.Stop.{Stop}
+use Rattle.halo_top.specs.declared.refusal.Stop.TheVariants as stop
+
+-- the files as the shelf tells them, and the names of which the count of faults rose
+pub record Shelved : Type 1 where
+  pub file : List ℕ → Option (List ℕ)
+  pub rose : List ℕ → Type 0
+
+-- the tables file of this name is in order, where it is told
+abbrev pub TablesInOrder : Shelved → List ℕ → Type 0
+TablesInOrder shelf tables = IfSome (shelf.file tables) AreTables
+
+-- this is the first thing that is wrong with the files of these names, as far as they are told; a file is read only where those before it are in order
+abbrev pub Refuses : Shelved → List ℕ → List ℕ → Refusal → Type 0
+Refuses shelf tables contract (refusal.Read file.Tables) = shelf.rose tables
+Refuses shelf tables contract (refusal.TooLong file.Tables) = IfSome (shelf.file tables) (λ all. limit_of file.Tables < length all)
+Refuses shelf tables contract (refusal.NotBuilt file.Tables) = IfSome (shelf.file tables) (λ all. (length all ≤ limit_of file.Tables) × (HasFirstForm (records_of all) → ⊥))
+Refuses shelf tables contract (refusal.Read file.Contract) = TablesInOrder shelf tables × shelf.rose contract
+Refuses shelf tables contract (refusal.TooLong file.Contract) = TablesInOrder shelf tables × IfSome (shelf.file contract) (λ all. limit_of file.Contract < length all)
+Refuses shelf tables contract (refusal.NotBuilt file.Contract) = IfSome (shelf.file tables) (λ all_tables. AreTables all_tables
+    × IfSome (shelf.file contract) (λ all. (length all ≤ limit_of file.Contract) × (HasOneLifeForm (tables_of (records_of all_tables)) all → ⊥)))
+Refuses shelf tables contract refusal.Usage = ⊥
+
+-- nothing is wrong with the files of these names, as far as they are told, and this is a report of two enclosures
+pub record IsReport (shelf : Shelved) (tables contract text : List ℕ) : Type 0 where
+  pub in_order : IfSome (shelf.file tables) (λ all_tables. AreTables all_tables × IfSome (shelf.file contract) (λ all. IsContract (tables_of (records_of all_tables)) all))
+  pub pay : Nano
+  pub total : Nano
+  pub report : text ≡ report_of pay total
+
+-- the report of the files of these names, or why there is none; want of memory is free
+abbrev pub AnswersFiles : Shelved → List ℕ → List ℕ → Result (Vec ℕ) Stop → Type 0
+AnswersFiles shelf tables contract (Ok text) = IsReport shelf tables contract text.items
+AnswersFiles shelf tables contract (Err stop.Memory) = ⊤
+AnswersFiles shelf tables contract (Err (stop.Refused r)) = Refuses shelf tables contract r
+
+-- what a command's files answer
+abbrev pub AnswersCommand : Shelved → Command → Result (Vec ℕ) Stop → Type 0
+AnswersCommand shelf (command.Value tables contract) result = AnswersFiles shelf tables.now contract.now result
+
+-- a refusal of words and files: the words are no command, or something is wrong with the files that they name
+abbrev pub Refused : List (List ℕ) → Shelved → Refusal → Type 0
+Refused words shelf refusal.Usage = IsCommand words → ⊥
+Refused words shelf r = (tables : List ℕ) × (contract : List ℕ) × AsksValue words tables contract × Refuses shelf tables contract r
+
+-- the status and the text that these words and files call for
+abbrev pub CallsFor : List (List ℕ) → Shelved → ℕ → List ℕ → Type 0
+CallsFor words shelf status text =
+    ((status ≡ 0) × ((tables : List ℕ) × (contract : List ℕ) × AsksValue words tables contract × IsReport shelf tables contract text))
+    ⊎ ((r : Refusal) × Refused words shelf r × (status ≡ status_of r) × (text ≡ line_of r))

@@ -1,0 +1,45 @@
+// The value of an annuity-due on one life.
+ghost use Rattle.std.specs.Prelude.{◌≡◌, ◌*◌, ◌<◌, ◌≤◌, ◌^◌, length, pos};
+ghost use Rattle.halo_num.specs.Ends.{IsSized, IsWithin, fine};
+ghost use Rattle.halo_top.specs.OneLife.{IsAlive};
+
+use crate::one_life::OneLife;
+use halo_interest::Interest;
+use halo_num::{Ival, Nano, Steps};
+use halo_table::{Life, Tables};
+use std::sync::ledger::Ledger;
+
+/// The value of 1 paid at the start of each year in which the life is alive: the sum over the years
+/// t of the discount of t years times the probability of being alive after t years, which is
+/// the survivors at the age then over the survivors at the age now.
+fn annuity_due<L: Ledger>(
+    tables: &Tables,
+    life: &Life,
+    interest: &Interest,
+    steps: &mut Steps<L>,
+) -> Ival
+    requires { IsAlive tables.now life.now }
+    ensures { IsWithin result (pos 0) (pos (201 * fine)) }
+{
+    let powers = interest.powers(steps);
+    let alive = tables.survivors(life.table, life.age);
+    let years = tables.last_age(life.table) - life.age + 1;
+    let mut value = Ival::exact(0);
+    for year in 0..years {
+        let survivors = tables.survivors(life.table, life.age + year);
+        let survival = Ival::ratio(survivors, alive);
+        value = value.add(powers.at(year).mul(survival, steps));
+    }
+    value
+}
+
+/// The enclosure of a contract's payment as it is printed.
+pub fn payment_value<L: Ledger>(tables: &Tables, contract: &OneLife, steps: &mut Steps<L>) -> Nano
+    requires life { IsAlive tables.now contract.now.life }
+    requires amount { contract.now.amount ≤ 10 ^ 10 }
+    ensures lo { IsSized result.lo (10 ^ 36) }
+    ensures hi { IsSized result.hi (10 ^ 36) }
+{
+    let annuity = annuity_due(tables, &contract.life, &contract.interest, steps);
+    annuity.scale(contract.amount as i64).to_nano()
+}

@@ -1,0 +1,61 @@
+// The files that a command reads.
+ghost use Rattle.std.specs.Prelude.{◌≡◌, ◌≤◌, ℕ, List};
+ghost use Rattle.halo_io.specs.Counts.{Rose};
+ghost use Rattle.halo_top.specs.Input.{LoadsContract, LoadsFile, LoadsTables, limit_of};
+
+use crate::one_life::OneLife;
+use crate::refusal::{InputFile, Refusal, Stop};
+use halo_io::{LoadFault, Shelf, load};
+use halo_table::{Tables, TablesError};
+use std::alloc::Global;
+
+/// The tables of the tables file of this name.
+pub fn load_tables<S: Shelf>(alloc: Global, shelf: &mut S, name: &str) -> Result<Tables, Stop>
+    ensures same { (n : List ℕ) → S.file shelf.new n ≡ S.file shelf.old n }
+    ensures later { (n : List ℕ) → S.faults shelf.old n ≤ S.faults shelf.new n }
+    ensures tables { LoadsTables (S.file shelf.old name.now) (Rose (S.faults shelf.old name.now) (S.faults shelf.new name.now)) result }
+{
+    let bytes = load_file(alloc, shelf, name, InputFile::Tables)?;
+    match Tables::read(alloc, &bytes) {
+        Ok(tables) => Ok(tables),
+        Err(TablesError::Memory) => Err(Stop::Memory),
+        Err(TablesError::Fault(_)) => Err(Stop::Refused(Refusal::NotBuilt(InputFile::Tables))),
+    }
+}
+
+/// The contract of the contract file of this name, with these tables.
+pub fn load_contract<S: Shelf>(
+    alloc: Global,
+    shelf: &mut S,
+    name: &str,
+    tables: &Tables,
+) -> Result<OneLife, Stop>
+    ensures same { (n : List ℕ) → S.file shelf.new n ≡ S.file shelf.old n }
+    ensures later { (n : List ℕ) → S.faults shelf.old n ≤ S.faults shelf.new n }
+    ensures contract { LoadsContract tables.now (S.file shelf.old name.now) (Rose (S.faults shelf.old name.now) (S.faults shelf.new name.now)) result }
+{
+    let bytes = load_file(alloc, shelf, name, InputFile::Contract)?;
+    match OneLife::read(&bytes, tables) {
+        Some(contract) => Ok(contract),
+        None => Err(Stop::Refused(Refusal::NotBuilt(InputFile::Contract))),
+    }
+}
+
+// All the bytes of a file.
+fn load_file<S: Shelf>(
+    alloc: Global,
+    shelf: &mut S,
+    name: &str,
+    file: InputFile,
+) -> Result<Vec<u8>, Stop>
+    ensures same { (n : List ℕ) → S.file shelf.new n ≡ S.file shelf.old n }
+    ensures later { (n : List ℕ) → S.faults shelf.old n ≤ S.faults shelf.new n }
+    ensures bytes { LoadsFile file (S.file shelf.old name.now) (Rose (S.faults shelf.old name.now) (S.faults shelf.new name.now)) result }
+{
+    match load(alloc, shelf, name, file.limit()) {
+        Ok(bytes) => Ok(bytes),
+        Err(LoadFault::Read) => Err(Stop::Refused(Refusal::Read(file))),
+        Err(LoadFault::TooLong) => Err(Stop::Refused(Refusal::TooLong(file))),
+        Err(LoadFault::Memory) => Err(Stop::Memory),
+    }
+}

@@ -1,0 +1,15 @@
+//! The program `halo` over any files and any output: from words and bytes to bytes and a status.
+#![tactic(auto)]
+
+mod annuity;
+mod command;
+mod cut;
+mod decimal;
+mod input;
+mod one_life;
+mod program;
+mod refusal;
+mod report;
+mod value;
+
+pub use program::run;

@@ -1,0 +1,79 @@
+// A whole run of the program.
+ghost use Rattle.std.specs.Prelude.{◌≡◌, ◌≢◌, ◌≤◌, ◌⊎◌, ℕ, List, map, string_bytes};
+ghost use Rattle.halo_io.specs.Counts.{Rose};
+ghost use Rattle.halo_io.specs.Told.{AppendsTold, TookPrefix};
+ghost use Rattle.halo_top.specs.Command.{IsCommand};
+ghost use Rattle.halo_top.specs.Verdict.{AnswersCommand, CallsFor};
+
+use crate::command::Command;
+use crate::refusal::{Refusal, Stop};
+use crate::value::value;
+use halo_io::{Shelf, Sink, put_all};
+use std::alloc::Global;
+
+/// The status where the whole answer was written.
+const FINE: u8 = 0;
+
+/// The status where a write failed.
+const WRITE_FAILED: u8 = 1;
+
+/// The status where there was no memory.
+const NO_MEMORY: u8 = 9;
+
+/// Does what the words ask for: reads the files that they name from the shelf, writes the answer, or
+/// the line of a refusal, to `out`, and answers the status with which the program ends.
+///
+/// | Status | Comes |
+/// |---|---|
+/// | 0 | where the whole report was written |
+/// | 1 | only where the sink's count of faults rose; a prefix of a text was taken |
+/// | 2 | where the words are no command that is built: `usage: ..` |
+/// | 3 | only where the shelf's count of faults of the file rose: `read fault tables`, `read fault contract` |
+/// | 4 | where the file is longer than its limit: `too long tables`, `too long contract` |
+/// | 5 | where the tables file has another form than the one that is built: `tables NotBuilt` |
+/// | 7 | where the contract file has: `contract NotBuilt` |
+/// | 9 | for want of memory; nothing was written, and the words were a command |
+///
+/// A text is built whole before its first write, and writing takes no memory.
+pub fn run<S: Shelf, K: Sink>(alloc: Global, words: &[String], shelf: &mut S, out: &mut K) -> u8
+    ensures same { (n : List ℕ) → S.file shelf.new n ≡ S.file shelf.old n }
+    ensures answer { result ≢ 1 → result ≢ 9 → (text : List ℕ)
+        × CallsFor (map string_bytes words.now) (record { file = S.file shelf.old; rose = λ n. Rose (S.faults shelf.old n) (S.faults shelf.new n) }) result text
+        × AppendsTold (K.taken out.old) (K.taken out.new) text }
+    ensures write_fault { result ≡ 1 → Rose (K.faults out.old) (K.faults out.new) × ((status : ℕ) × (text : List ℕ)
+        × CallsFor (map string_bytes words.now) (record { file = S.file shelf.old; rose = λ n. Rose (S.faults shelf.old n) (S.faults shelf.new n) }) status text
+        × TookPrefix (K.taken out.old) (K.taken out.new) text) }
+    ensures memory { result ≡ 9 → IsCommand (map string_bytes words.now) × (out.new ≡ out.old) }
+    ensures usage { (IsCommand (map string_bytes words.now) → ⊥) → (result ≡ 2) ⊎ (result ≡ 1) }
+{
+    let Some(command) = Command::read(words) else {
+        return write(Refusal::Usage.line(), Refusal::Usage.status(), out);
+    };
+    match answer(alloc, command, shelf) {
+        Ok(text) => write(&text, FINE, out),
+        Err(Stop::Refused(refusal)) => write(refusal.line(), refusal.status(), out),
+        Err(Stop::Memory) => NO_MEMORY,
+    }
+}
+
+// The text that a command writes.
+fn answer<S: Shelf>(alloc: Global, command: Command<'_>, shelf: &mut S) -> Result<Vec<u8>, Stop>
+    ensures same { (n : List ℕ) → S.file shelf.new n ≡ S.file shelf.old n }
+    ensures answer { AnswersCommand (record { file = S.file shelf.old; rose = λ n. Rose (S.faults shelf.old n) (S.faults shelf.new n) }) command.entry result }
+{
+    match command {
+        Command::Value { tables, contract } => value(alloc, tables, contract, shelf),
+    }
+}
+
+// Writes a text, and answers its status, or that a write failed.
+fn write<K: Sink>(text: &[u8], status: u8, out: &mut K) -> u8
+    requires { status ≢ 1 }
+    ensures written { result ≢ 1 → (result ≡ status) × AppendsTold (K.taken out.old) (K.taken out.new) text.now }
+    ensures failed { result ≡ 1 → Rose (K.faults out.old) (K.faults out.new) × TookPrefix (K.taken out.old) (K.taken out.new) text.now }
+{
+    match put_all(out, text) {
+        Ok(()) => status,
+        Err(_) => WRITE_FAILED,
+    }
+}
