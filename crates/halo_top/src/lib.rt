@@ -13,3 +13,6 @@ mod report;
 mod value;
 
 pub use program::run;
+
+#[cfg(test)]
+mod tests;
