@@ -14,7 +14,7 @@ use Rattle.halo_num.proofs.Multiples.{least_of, greatest_of}
 use Rattle.halo_num.proofs.Ring.{mul_mono, chain}
 
 -- two naturals by which is greater
-by_order : {P : Type 0} (a b : ℕ) → ((c : ℕ) → a ≡ b + c → P) → ((c : ℕ) → b ≡ a + c → P) → P
+pub by_order : {P : Type 0} (a b : ℕ) → ((c : ℕ) → a ≡ b + c → P) → ((c : ℕ) → b ≡ a + c → P) → P
 by_order a b f g = ⊎_elim (λ (h : a < b). g (b - a) (omega arith)) (λ (h : b ≤ a). f (a - b) (omega arith)) (cases_lt a b)
 
 -- the other side of a chance
@@ -88,7 +88,7 @@ mix_high_nat r pl ql ph qh a b s t x y d e f u l i j k g h p q v w =
     in omega arith
 
 -- a blend of naturals
-blend_pos : (s x y : ℕ) → s ≤ fine → blend (pos s) (pos x) (pos y) ≡ pos (s * x + (fine - s) * y)
+pub blend_pos : (s x y : ℕ) → s ≤ fine → blend (pos s) (pos x) (pos y) ≡ pos (s * x + (fine - s) * y)
 blend_pos s x y h =
     let e : pos fine -ℤ pos s ≡ pos (fine - s) = same_in (pos fine -ℤ pos s) (pos (fine - s)) (omega (arith, ints))
     in rw e refl
@@ -152,7 +152,7 @@ sum_mono : (a b c d : ℤ) → a ≤ℤ c → b ≤ℤ d → (a +ℤ b) ≤ℤ (
 sum_mono a b c d p q = omega (arith, ints)
 
 -- a blend goes up in its values
-blend_mono : (s x y v w : ℤ) → pos 0 ≤ℤ s → s ≤ℤ pos fine → pos 0 ≤ℤ x → pos 0 ≤ℤ y → x ≤ℤ v → y ≤ℤ w → blend s x y ≤ℤ blend s v w
+pub blend_mono : (s x y v w : ℤ) → pos 0 ≤ℤ s → s ≤ℤ pos fine → pos 0 ≤ℤ x → pos 0 ≤ℤ y → x ≤ℤ v → y ≤ℤ w → blend s x y ≤ℤ blend s v w
 blend_mono s x y v w i j k l p q =
     let r : pos 0 ≤ℤ (pos fine -ℤ s) = omega (arith, ints)
     in let t = pos fine -ℤ s

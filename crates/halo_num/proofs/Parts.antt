@@ -11,11 +11,11 @@ cond_cases true x y = inl refl
 cond_cases false x y = inr refl
 
 -- the greater of two is one of them
-int_max_cases : (x y : ℤ) → (int_max x y ≡ x) ⊎ (int_max x y ≡ y)
+pub int_max_cases : (x y : ℤ) → (int_max x y ≡ x) ⊎ (int_max x y ≡ y)
 int_max_cases x y = cond_cases (int_lt y x) x y
 
 -- the lesser of two is one of them
-int_min_cases : (x y : ℤ) → (int_min x y ≡ x) ⊎ (int_min x y ≡ y)
+pub int_min_cases : (x y : ℤ) → (int_min x y ≡ x) ⊎ (int_min x y ≡ y)
 int_min_cases x y = ⊎_elim inr inl (cond_cases (int_lt y x) y x)
 
 -- a lower end raised to what is still below

@@ -3,7 +3,7 @@ ghost use Rattle.std.specs.Int.{int_min, int_max};
 ghost use Rattle.halo_num.specs.Ends.{fine, printed, IsWithin, IsSized, HasWidth};
 ghost use Rattle.halo_num.specs.Rounding.{IsFloor, IsCeiling};
 ghost use Rattle.halo_num.specs.Enclosure.{Encloses, EnclosesPrinted};
-ghost use Rattle.halo_num.specs.Blend.{blend};
+ghost use Rattle.halo_num.specs.Blend.{blend, IsLeastBlend, IsGreatestBlend};
 
 use crate::mixing::{greatest_blend, least_blend};
 use crate::nano::Nano;
@@ -182,6 +182,8 @@ impl Ival {
         requires p_in { IsWithin p (pos 0) (pos fine) }
         requires a_in { IsWithin a (pos 0) (pos fine) }
         requires b_in { IsWithin b (pos 0) (pos fine) }
+        ensures least { IsLeastBlend p a b (int_min (blend p.lo a.lo b.lo) (blend p.hi a.lo b.lo)) }
+        ensures greatest { IsGreatestBlend p a b (int_max (blend p.lo a.hi b.hi) (blend p.hi a.hi b.hi)) }
         ensures low { IsFloor result.lo (int_min (blend p.lo a.lo b.lo) (blend p.hi a.lo b.lo)) (pos fine) }
         ensures high { IsCeiling result.hi (int_max (blend p.lo a.hi b.hi) (blend p.hi a.hi b.hi)) (pos fine) }
         ensures encloses { (s x y d e f : ℕ) → Encloses p (pos s) d → Encloses a (pos x) e → Encloses b (pos y) f → Encloses result (pos (s * x * f + (d - s) * y * e)) (d * e * f) }

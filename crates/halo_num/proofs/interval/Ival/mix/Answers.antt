@@ -2,6 +2,7 @@ use Rattle.std.proofs.Common.{rules, arith}
 use Rattle.std.proofs.lemmas.Int.{to_z-of_z}
 use Rattle.halo_num.proofs.Blends.{encloses_mix, mix_ordered}
 use Rattle.halo_num.proofs.Rounded.{floor_at}
+use Rattle.halo_num.proofs.Extremes.{least_at_ends, greatest_at_ends}
 use Rattle.halo_num.proofs.interval.Ival.mix.Goals as goal
 
 pub returns-clause-low : goal.returns-clause-low
@@ -17,3 +18,10 @@ invariant_of-result g c =
 pub returns-clause-encloses : goal.returns-clause-encloses
 returns-clause-encloses g c = λ s x y d e f p q r.
     encloses_mix c.args.p c.args.a c.args.b _ s x y d e f c.requires.p_in c.ends-p_low.ensures.order c.requires.a_in.low c.ends-a_low.ensures.order c.requires.b_in.low c.ends-b_low.ensures.order (search rules) (search rules) (returns-clause-low g c) (returns-clause-high g c) p q r
+
+pub returns-clause-least : goal.returns-clause-least
+returns-clause-least g c = least_at_ends c.args.p c.args.a c.args.b c.requires.p_in c.ends-p_low.ensures.order c.requires.a_in.low c.ends-a_low.ensures.order c.requires.b_in.low c.ends-b_low.ensures.order
+
+pub returns-clause-greatest : goal.returns-clause-greatest
+returns-clause-greatest g c =
+    greatest_at_ends c.args.p c.args.a c.args.b c.requires.p_in c.ends-p_low.ensures.order c.requires.a_in.low c.ends-a_low.ensures.order c.requires.b_in.low c.ends-b_low.ensures.order
