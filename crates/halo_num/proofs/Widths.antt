@@ -1,5 +1,7 @@
 -- How wide sums, multiples, products and printed intervals are.
-use Rattle.std.proofs.Common.{◌≡◌, ℕ, ◌+◌, ◌*◌, ◌/◌, ◌^◌, ◌<◌, ◌≤◌, ℤ, pos, negsuc, ◌+ℤ◌, ◌-ℤ◌, ◌*ℤ◌, ◌≤ℤ◌, arith, suc}
+use Rattle.std.proofs.Common.{◌≡◌, ℕ, ◌+◌, ◌*◌, ◌/◌, ◌^◌, ◌<◌, ◌≤◌, ℤ, pos, negsuc, ◌+ℤ◌, ◌-ℤ◌, ◌*ℤ◌, ◌≤ℤ◌, arith, suc, ⊎_elim, lit<}
+use Rattle.std.proofs.lemmas.Bool.{cases_lt}
+use Rattle.std.proofs.lemmas.Nat.{mul-le}
 use Rattle.std.proofs.lemmas.Int.{ints, clamps}
 use Rattle.std.proofs.Math.Nat.{mul-le-mul_left, mul-le-mul_right}
 use Rattle.std.specs.Int.{int_min, int_max}
@@ -57,3 +59,34 @@ width_mul lo hi al ah (pos bl) (negsuc bh) v w a b i0 i1 i2 i3 i4 i5 i6 i7 f c p
 -- printed, an interval grows by less than 2 units: by at most 1 past its width rounded up
 pub width_printed : (l h lo hi : ℤ) (w : ℕ) → IsFloor l lo (pos printed) → IsCeiling h hi (pos printed) → hi ≤ℤ (lo +ℤ pos w) → h ≤ℤ (l +ℤ pos ((w + 999_999_999) / 10 ^ 9 + 1))
 width_printed l h lo hi w f c p = omega (arith, ints, f.nearest, c.nearest)
+
+-- a factor that is not 0 cancels
+cancel_lt : (x y k : ℕ) → x * k < y * k → x < y
+cancel_lt x y k h = ⊎_elim (λ (l : x < y). l) (λ (l : y ≤ x). let m : y * k ≤ x * k = mul-le-mul_right k l in absurd (omega arith)) (cases_lt x y)
+
+-- the width of a quotient by at least one, of at most t ones, over naturals
+quotient_width_nat : (lo hi al ah bl bh v w t u : ℕ) → 0 < u → al * u < lo * bh + bh → hi * bl < ah * u + bl → ah ≤ al + v → bh ≤ bl + w → u ≤ bl → bl ≤ bh → ah ≤ t * u → hi ≤ lo + (v + t * w + 1)
+quotient_width_nat lo hi al ah bl bh v w t u z p q i j k l m =
+    let e1 : ah * u * bh ≤ ah * u * (bl + w) = mul-le-mul_left (ah * u) j
+    in let e2 : ah * (u * bl) ≤ (al + v) * (u * bl) = mul-le-mul_right (u * bl) i
+    in let e3 : ah * (u * w) ≤ t * u * (u * w) = mul-le-mul_right (u * w) m
+    in let e4 : u * (v * bl) ≤ bh * (v * bl) = mul-le-mul_right (v * bl) (omega arith)
+    in let e5 : u * u ≤ bl * bh = mul-le u u bl bh k (omega arith)
+    in let e6 : u * u * (t * w) ≤ bl * bh * (t * w) = mul-le-mul_right (t * w) e5
+    in let e7 : (al * u + 1) * bl ≤ (lo * bh + bh) * bl = mul-le-mul_right bl (omega arith)
+    in let e8 : (hi * bl + 1) * bh ≤ (ah * u + bl) * bh = mul-le-mul_right bh (omega arith)
+    in let s : hi * (bl * bh) < (lo + (v + t * w + 1) + 1) * (bl * bh) = omega arith
+    in let r : hi < lo + (v + t * w + 1) + 1 = cancel_lt hi (lo + (v + t * w + 1) + 1) (bl * bh) s
+    in omega arith
+
+-- a quotient by at least one is as wide as its numerator, and as its divisor times the ones in the numerator
+pub width_quotient : (lo hi al ah bl bh : ℤ) (v w t : ℕ) → pos 0 ≤ℤ lo → pos 0 ≤ℤ hi → pos 0 ≤ℤ al → al ≤ℤ ah → pos fine ≤ℤ bl → bl ≤ℤ bh → ah ≤ℤ pos (t * fine) → IsFloor lo (al *ℤ pos fine) bh → IsCeiling hi (ah *ℤ pos fine) bl → ah ≤ℤ (al +ℤ pos v) → bh ≤ℤ (bl +ℤ pos w) → hi ≤ℤ (lo +ℤ pos (v + t * w + 1))
+width_quotient (pos lo) (pos hi) (pos al) (pos ah) (pos bl) (pos bh) v w t i0 i1 i2 i3 i4 i5 i6 f c p q =
+    let k = quotient_width_nat lo hi al ah bl bh v w t fine (lit< tt) (omega (arith, ints, f.nearest)) (omega (arith, ints, c.nearest)) (omega (arith, ints)) (omega (arith, ints)) (omega (arith, ints)) (omega (arith, ints)) (omega (arith, ints))
+    in omega (arith, ints)
+width_quotient (negsuc lo) hi al ah bl bh v w t i0 i1 i2 i3 i4 i5 i6 f c p q = absurd (omega (arith, ints, i0))
+width_quotient lo (negsuc hi) al ah bl bh v w t i0 i1 i2 i3 i4 i5 i6 f c p q = absurd (omega (arith, ints, i1))
+width_quotient lo hi (negsuc al) ah bl bh v w t i0 i1 i2 i3 i4 i5 i6 f c p q = absurd (omega (arith, ints, i2))
+width_quotient lo hi (pos al) (negsuc ah) bl bh v w t i0 i1 i2 i3 i4 i5 i6 f c p q = absurd (omega (arith, ints, i3))
+width_quotient lo hi al ah (negsuc bl) bh v w t i0 i1 i2 i3 i4 i5 i6 f c p q = absurd (omega (arith, ints, i4))
+width_quotient lo hi al ah (pos bl) (negsuc bh) v w t i0 i1 i2 i3 i4 i5 i6 f c p q = absurd (omega (arith, ints, i5))

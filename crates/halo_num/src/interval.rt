@@ -169,6 +169,7 @@ impl Ival {
         ensures low { IsFloor result.lo (self.lo *ℤ pos fine) o.hi }
         ensures high { IsCeiling result.hi (self.hi *ℤ pos fine) o.lo }
         ensures encloses { (n : ℤ) (m d e : ℕ) → Encloses self n d → Encloses o (pos m) e → Encloses result (n *ℤ pos e) (d * m) }
+        ensures narrow { (v w t : ℕ) → self.hi ≤ℤ pos (t * fine) → HasWidth self v → HasWidth o w → HasWidth result (v + t * w + 1) }
     {
         Ival {
             lo: quotient_down(self.lo, o.hi),
