@@ -189,6 +189,7 @@ impl Ival {
         ensures high { IsCeiling result.hi (int_max (blend p.lo a.hi b.hi) (blend p.hi a.hi b.hi)) (pos fine) }
         ensures encloses { (s x y d e f : ℕ) → Encloses p (pos s) d → Encloses a (pos x) e → Encloses b (pos y) f → Encloses result (pos (s * x * f + (d - s) * y * e)) (d * e * f) }
         ensures within { IsWithin result (pos 0) (pos fine) }
+        ensures narrow { (u w : ℕ) → HasWidth p u → HasWidth a w → HasWidth b w → HasWidth result (u + w + 1) }
         ensures cost { steps.new ≡ steps.old + 2 }
     {
         steps.tick();

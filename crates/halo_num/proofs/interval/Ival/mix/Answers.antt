@@ -3,6 +3,7 @@ use Rattle.std.proofs.lemmas.Int.{to_z-of_z}
 use Rattle.halo_num.proofs.Blends.{encloses_mix, mix_ordered}
 use Rattle.halo_num.proofs.Rounded.{floor_at}
 use Rattle.halo_num.proofs.Extremes.{least_at_ends, greatest_at_ends}
+use Rattle.halo_num.proofs.Spreads.{width_mix}
 use Rattle.halo_num.proofs.interval.Ival.mix.Goals as goal
 
 pub returns-clause-low : goal.returns-clause-low
@@ -25,3 +26,7 @@ returns-clause-least g c = least_at_ends c.args.p c.args.a c.args.b c.requires.p
 pub returns-clause-greatest : goal.returns-clause-greatest
 returns-clause-greatest g c =
     greatest_at_ends c.args.p c.args.a c.args.b c.requires.p_in c.ends-p_low.ensures.order c.requires.a_in.low c.ends-a_low.ensures.order c.requires.b_in.low c.ends-b_low.ensures.order
+
+pub returns-clause-narrow : goal.returns-clause-narrow
+returns-clause-narrow g c = λ u w p q r.
+    width_mix c.args.p c.args.a c.args.b _ u w c.requires.p_in c.requires.a_in c.requires.b_in c.ends-p_low.ensures.order c.ends-a_low.ensures.order c.ends-b_low.ensures.order (returns-clause-low g c) (returns-clause-high g c) p q r
