@@ -182,8 +182,11 @@ impl Interest {
     pub fn powers_from<L: Ledger>(&self, start: u16, steps: &mut Steps<L>) -> Powers
         requires { start ≤ LAST_TIME }
         ensures powers { ArePowers (discount_numerator self.now) (discount_denominator self.now) start result }
+        ensures rates { (k : ℕ) → IsFraction (rate_of self.now k).p (rate_of self.now k).q }
         ensures cost { steps.new ≤ steps.old + 200 }
     {
+        // The proof sees here that each year has a fraction.
+        let _ = &self.rates;
         let mut power = Ival::exact(ONE_IN_FINE_UNITS);
         let mut values = [power; TIMES];
         for t in 0..LAST_TIME - start {
@@ -198,6 +201,7 @@ impl Interest {
     /// The counter is raised by at most 200.
     pub fn powers<L: Ledger>(&self, steps: &mut Steps<L>) -> Powers
         ensures powers { ArePowers (discount_numerator self.now) (discount_denominator self.now) 0 result }
+        ensures rates { (k : ℕ) → IsFraction (rate_of self.now k).p (rate_of self.now k).q }
         ensures cost { steps.new ≤ steps.old + 200 }
     {
         self.powers_from(0, steps)

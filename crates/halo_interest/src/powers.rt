@@ -36,7 +36,8 @@ impl Powers {
     pub fn at(&self, t: u16) -> Ival
         requires { t ≤ LAST_TIME }
         ensures value { result ≡ power_at self.now t }
-        ensures power { (n d : ℕ → ℕ) (s : ℕ) → ArePowers n d s self.now → t ≤ LAST_TIME - s → IsPower n d s t result }
+        ensures power { (n d : ℕ → ℕ) (s : ℕ) → ArePowers n d s self.now → t ≤ LAST_TIME - s →
+            IsPower n d s t result }
     {
         self.values[t as usize]
     }

@@ -1,12 +1,12 @@
 -- How wide sums, multiples, products and printed intervals are.
-use Rattle.std.proofs.Common.{◌≡◌, ℕ, ◌+◌, ◌*◌, ◌/◌, ◌^◌, ◌<◌, ◌≤◌, ℤ, pos, negsuc, ◌+ℤ◌, ◌-ℤ◌, ◌*ℤ◌, ◌≤ℤ◌, arith, suc, ⊎_elim, lit<}
+use Rattle.std.proofs.Common.{◌≡◌, ℕ, ◌+◌, ◌*◌, ◌^◌, ◌<◌, ◌≤◌, ℤ, pos, negsuc, ◌+ℤ◌, ◌-ℤ◌, ◌*ℤ◌, ◌≤ℤ◌, arith, suc, ⊎_elim, lit<}
 use Rattle.std.proofs.lemmas.Bool.{cases_lt}
 use Rattle.std.proofs.lemmas.Nat.{mul-le}
 use Rattle.std.proofs.lemmas.Int.{ints, clamps}
 use Rattle.std.proofs.Math.Nat.{mul-le-mul_left, mul-le-mul_right}
 use Rattle.std.specs.Int.{int_min, int_max}
 use lib.IntN.{*ℤ-negsuc}
-use Rattle.halo_num.specs.Ends.{Ends, fine, printed, HasWidth, IsSized}
+use Rattle.halo_num.specs.Ends.{Ends, fine, printed, printed_ceiling, HasWidth, IsSized}
 use Rattle.halo_num.specs.Rounding.{IsFloor, IsCeiling}
 use Rattle.halo_num.proofs.Ring.{dist, times}
 
@@ -57,7 +57,7 @@ width_mul lo hi (pos al) (negsuc ah) bl bh v w a b i0 i1 i2 i3 i4 i5 i6 i7 f c p
 width_mul lo hi al ah (pos bl) (negsuc bh) v w a b i0 i1 i2 i3 i4 i5 i6 i7 f c p q = absurd (omega (arith, ints, i5))
 
 -- printed, an interval grows by less than 2 units: by at most 1 past its width rounded up
-pub width_printed : (l h lo hi : ℤ) (w : ℕ) → IsFloor l lo (pos printed) → IsCeiling h hi (pos printed) → hi ≤ℤ (lo +ℤ pos w) → h ≤ℤ (l +ℤ pos ((w + 999_999_999) / 10 ^ 9 + 1))
+pub width_printed : (l h lo hi : ℤ) (w : ℕ) → IsFloor l lo (pos printed) → IsCeiling h hi (pos printed) → hi ≤ℤ (lo +ℤ pos w) → h ≤ℤ (l +ℤ pos (printed_ceiling w + 1))
 width_printed l h lo hi w f c p = omega (arith, ints, f.nearest, c.nearest)
 
 -- a factor that is not 0 cancels

@@ -1,6 +1,6 @@
 ghost use Rattle.std.specs.Prelude.{◌≡◌, ℕ, ◌+◌, ◌-◌, ◌*◌, ◌/◌, ◌^◌, ◌≤◌, ℤ, pos, ◌+ℤ◌, ◌-ℤ◌, ◌*ℤ◌, ◌≤ℤ◌, neg_ℤ};
 ghost use Rattle.std.specs.Int.{int_min, int_max};
-ghost use Rattle.halo_num.specs.Ends.{fine, printed, IsWithin, IsSized, HasWidth};
+ghost use Rattle.halo_num.specs.Ends.{fine, printed, printed_ceiling, IsWithin, IsSized, HasWidth};
 ghost use Rattle.halo_num.specs.Rounding.{IsFloor, IsCeiling};
 ghost use Rattle.halo_num.specs.Enclosure.{Encloses, EnclosesPrinted};
 ghost use Rattle.halo_num.specs.Blend.{blend, IsLeastBlend, IsGreatestBlend};
@@ -147,10 +147,13 @@ impl Ival {
         requires o_in { o.hi ≤ℤ pos (10 ^ 21) }
         ensures low { IsFloor result.lo (self.lo *ℤ o.lo) (pos fine) }
         ensures high { IsCeiling result.hi (self.hi *ℤ o.hi) (pos fine) }
-        ensures encloses { (n m : ℤ) (d e : ℕ) → Encloses self n d → Encloses o m e → Encloses result (n *ℤ m) (d * e) }
+        ensures encloses { (n m : ℤ) (d e : ℕ) → Encloses self n d → Encloses o m e →
+            Encloses result (n *ℤ m) (d * e) }
         ensures within { self.hi ≤ℤ pos fine → o.hi ≤ℤ pos fine → IsWithin result (pos 0) (pos fine) }
-        ensures narrow { (v w : ℕ) → self.hi ≤ℤ pos fine → o.hi ≤ℤ pos fine → HasWidth self v → HasWidth o w → HasWidth result (v + w + 1) }
-        ensures width { (v w a b : ℕ) → self.hi ≤ℤ pos (a * fine) → o.hi ≤ℤ pos (b * fine) → HasWidth self v → HasWidth o w → HasWidth result (v * b + w * a + 1) }
+        ensures narrow { (v w : ℕ) → self.hi ≤ℤ pos fine → o.hi ≤ℤ pos fine → HasWidth self v → HasWidth o w →
+            HasWidth result (v + w + 1) }
+        ensures width { (v w a b : ℕ) → self.hi ≤ℤ pos (a * fine) → o.hi ≤ℤ pos (b * fine) → HasWidth self v →
+            HasWidth o w → HasWidth result (v * b + w * a + 1) }
         ensures cost { steps.new ≡ steps.old + 1 }
     {
         steps.tick();
@@ -168,8 +171,10 @@ impl Ival {
         requires o_in { o.hi ≤ℤ pos (10 ^ 21) }
         ensures low { IsFloor result.lo (self.lo *ℤ pos fine) o.hi }
         ensures high { IsCeiling result.hi (self.hi *ℤ pos fine) o.lo }
-        ensures encloses { (n : ℤ) (m d e : ℕ) → Encloses self n d → Encloses o (pos m) e → Encloses result (n *ℤ pos e) (d * m) }
-        ensures narrow { (v w t : ℕ) → self.hi ≤ℤ pos (t * fine) → HasWidth self v → HasWidth o w → HasWidth result (v + t * w + 1) }
+        ensures encloses { (n : ℤ) (m d e : ℕ) → Encloses self n d → Encloses o (pos m) e →
+            Encloses result (n *ℤ pos e) (d * m) }
+        ensures narrow { (v w t : ℕ) → self.hi ≤ℤ pos (t * fine) → HasWidth self v → HasWidth o w →
+            HasWidth result (v + t * w + 1) }
     {
         Ival {
             lo: quotient_down(self.lo, o.hi),
@@ -187,7 +192,8 @@ impl Ival {
         ensures greatest { IsGreatestBlend p a b (int_max (blend p.lo a.hi b.hi) (blend p.hi a.hi b.hi)) }
         ensures low { IsFloor result.lo (int_min (blend p.lo a.lo b.lo) (blend p.hi a.lo b.lo)) (pos fine) }
         ensures high { IsCeiling result.hi (int_max (blend p.lo a.hi b.hi) (blend p.hi a.hi b.hi)) (pos fine) }
-        ensures encloses { (s x y d e f : ℕ) → Encloses p (pos s) d → Encloses a (pos x) e → Encloses b (pos y) f → Encloses result (pos (s * x * f + (d - s) * y * e)) (d * e * f) }
+        ensures encloses { (s x y d e f : ℕ) → Encloses p (pos s) d → Encloses a (pos x) e → Encloses b (pos y) f →
+            Encloses result (pos (s * x * f + (d - s) * y * e)) (d * e * f) }
         ensures within { IsWithin result (pos 0) (pos fine) }
         ensures narrow { (u w : ℕ) → HasWidth p u → HasWidth a w → HasWidth b w → HasWidth result (u + w + 1) }
         ensures cost { steps.new ≡ steps.old + 2 }
@@ -209,7 +215,8 @@ impl Ival {
         requires reaches_low { low ≤ℤ self.hi }
         ensures lo { result.lo ≡ int_max self.lo low }
         ensures hi { result.hi ≡ int_min self.hi high }
-        ensures encloses { (n : ℤ) (d : ℕ) → Encloses self n d → (low *ℤ pos d) ≤ℤ (n *ℤ pos fine) → (n *ℤ pos fine) ≤ℤ (high *ℤ pos d) → Encloses result n d }
+        ensures encloses { (n : ℤ) (d : ℕ) → Encloses self n d → (low *ℤ pos d) ≤ℤ (n *ℤ pos fine) →
+            (n *ℤ pos fine) ≤ℤ (high *ℤ pos d) → Encloses result n d }
     {
         Ival {
             lo: self.lo.max(low),
@@ -222,7 +229,7 @@ impl Ival {
         ensures low { IsFloor result.lo self.lo (pos printed) }
         ensures high { IsCeiling result.hi self.hi (pos printed) }
         ensures encloses { (n : ℤ) (d : ℕ) → Encloses self n d → EnclosesPrinted result.lo result.hi n d }
-        ensures narrow { (w : ℕ) → HasWidth self w → result.hi ≤ℤ (result.lo +ℤ pos ((w + 999_999_999) / 10 ^ 9 + 1)) }
+        ensures narrow { (w : ℕ) → HasWidth self w → result.hi ≤ℤ (result.lo +ℤ pos (printed_ceiling w + 1)) }
     {
         Nano {
             lo: printed_down(self.lo),

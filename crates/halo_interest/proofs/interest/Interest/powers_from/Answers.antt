@@ -1,7 +1,8 @@
-use Rattle.std.proofs.Common.{arith, ℕ, ◌+◌, ◌*◌, pos}
+use Rattle.std.proofs.Common.{subst, arith, ℕ, ◌+◌, ◌*◌, pos}
 use Rattle.halo_interest.specs.Powers.{product_from, IsPower}
-use Rattle.halo_interest.specs.Rates.{discount_numerator, discount_denominator}
+use Rattle.halo_interest.specs.Rates.{IsInterest, discount_numerator, discount_denominator}
 use Rattle.halo_interest.proofs.Growth.{power_zero, first_powers, more_powers, power_more}
+use Rattle.halo_interest.proofs.InForce.{in_force_is}
 use Rattle.halo_interest.proofs.interest.Interest.powers_from.Goals as goal
 
 pub loop-t-init : goal.loop-t-init
@@ -32,3 +33,6 @@ loop-t-preserved g c =
       power = next;
       cost = omega arith;
     }
+
+pub returns-clause-rates : goal.returns-clause-rates
+returns-clause-rates g c = in_force_is c.args.self.now (subst IsInterest c.self.view_is c.self.invariant.interest)
