@@ -54,15 +54,15 @@ encloses_mul a b r n m d e al bl ah bh rl rh f c p q =
       high = mul_high r.hi a.hi b.hi n m d e rh (omega (arith, ints)) (omega (arith, ints)) (not_negative a.lo n d al p.low) (not_negative b.lo m e bl q.low) c.reached p.high q.high;
     }
 
--- a product of parts of 1, over naturals
-one_nat : (hi ah bh : ℕ) → hi * 10 ^ 18 < ah * bh + 10 ^ 18 → ah ≤ 10 ^ 18 → bh ≤ 10 ^ 18 → hi ≤ 10 ^ 18
-one_nat hi ah bh q i j = let m : ah * bh ≤ 10 ^ 18 * 10 ^ 18 = mul-le ah bh (10 ^ 18) (10 ^ 18) i j in omega arith
+-- how great a product of factors of at most a and b ones is, over naturals
+bounded_nat : (hi ah bh a b : ℕ) → hi * 10 ^ 18 < ah * bh + 10 ^ 18 → ah ≤ a * 10 ^ 18 → bh ≤ b * 10 ^ 18 → hi ≤ a * b * 10 ^ 18
+bounded_nat hi ah bh a b q i j = let m : ah * bh ≤ a * 10 ^ 18 * (b * 10 ^ 18) = mul-le ah bh (a * 10 ^ 18) (b * 10 ^ 18) i j in omega arith
 
--- a product of parts of 1 is at most 1
-pub one_mul : (hi ah bh : ℤ) → pos 0 ≤ℤ hi → pos 0 ≤ℤ ah → pos 0 ≤ℤ bh → ah ≤ℤ pos fine → bh ≤ℤ pos fine → IsCeiling hi (ah *ℤ bh) (pos fine) → hi ≤ℤ pos fine
-one_mul (pos hi) (pos ah) (pos bh) i1 i4 i5 i6 i7 c =
-    let k = one_nat hi ah bh (omega (arith, ints, c.nearest)) (omega (arith, ints)) (omega (arith, ints))
+-- a product of factors of at most a and b ones is at most the product of a and b
+pub bounded_mul : (hi ah bh : ℤ) (a b : ℕ) → pos 0 ≤ℤ hi → pos 0 ≤ℤ ah → pos 0 ≤ℤ bh → ah ≤ℤ pos (a * fine) → bh ≤ℤ pos (b * fine) → IsCeiling hi (ah *ℤ bh) (pos fine) → hi ≤ℤ pos (a * b * fine)
+bounded_mul (pos hi) (pos ah) (pos bh) a b i1 i4 i5 i6 i7 c =
+    let k = bounded_nat hi ah bh a b (omega (arith, ints, c.nearest)) (omega (arith, ints)) (omega (arith, ints))
     in omega (arith, ints)
-one_mul (negsuc hi) ah bh i1 i4 i5 i6 i7 c = absurd (omega (arith, ints))
-one_mul hi (negsuc ah) bh i1 i4 i5 i6 i7 c = absurd (omega (arith, ints))
-one_mul hi ah (negsuc bh) i1 i4 i5 i6 i7 c = absurd (omega (arith, ints))
+bounded_mul (negsuc hi) ah bh a b i1 i4 i5 i6 i7 c = absurd (omega (arith, ints))
+bounded_mul hi (negsuc ah) bh a b i1 i4 i5 i6 i7 c = absurd (omega (arith, ints))
+bounded_mul hi ah (negsuc bh) a b i1 i4 i5 i6 i7 c = absurd (omega (arith, ints))

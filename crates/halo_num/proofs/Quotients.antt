@@ -1,12 +1,12 @@
 -- Quotients by ends that are not below 1.
-use Rattle.std.proofs.Common.{ℕ, ◌*◌, ◌<◌, ◌≤◌, ℤ, pos, negsuc, ◌*ℤ◌, ◌≤ℤ◌, arith, lit<}
+use Rattle.std.proofs.Common.{ℕ, ◌+◌, ◌*◌, ◌<◌, ◌≤◌, ℤ, pos, negsuc, ◌*ℤ◌, ◌≤ℤ◌, arith, lit<}
 use Rattle.std.proofs.lemmas.Int.{ints}
-use Rattle.std.proofs.Math.Nat.{mul-le-mul_right, le_of_mul-le-mul_right}
+use Rattle.std.proofs.Math.Nat.{mul-le-mul_left, mul-le-mul_right, le_of_mul-le-mul_right}
 use Rattle.halo_num.specs.Ends.{Ends, fine}
 use Rattle.halo_num.specs.Rounding.{IsFloor, IsCeiling}
 use Rattle.halo_num.specs.Enclosure.{Encloses}
 use Rattle.halo_num.proofs.Laws.{not_negative}
-use Rattle.halo_num.proofs.Ring.{mul_mono, cancel}
+use Rattle.halo_num.proofs.Ring.{mul_mono, cancel, cancel_lt}
 
 -- a quotient by more is at most a quotient by less
 pub ordered_quotient : (r s z w c d : ℤ) → pos 0 ≤ℤ r → pos 1 ≤ℤ c → c ≤ℤ d → z ≤ℤ w → (r *ℤ d) ≤ℤ z → w ≤ℤ (s *ℤ c) → r ≤ℤ s
@@ -60,3 +60,21 @@ encloses_quotient a b r n m d e al ah bl bh rl rh f c p q =
       low = quotient_low r.lo a.lo b.hi n m d e rl al (omega (arith, ints)) f.reached p.low q.high;
       high = quotient_high r.hi a.hi b.lo n m d e rh (omega (arith, ints)) (omega (arith, ints)) (not_negative a.lo n d al p.low) c.reached p.high q.low;
     }
+
+-- how great a quotient by at least one is, over naturals
+bounded_quotient_nat : (hi ah bl t u : ℕ) → hi * bl < ah * u + bl → u ≤ bl → ah ≤ t * u → hi ≤ t * u
+bounded_quotient_nat hi ah bl t u p k m =
+    let e : ah * u ≤ t * u * u = mul-le-mul_right u m
+    in let f : t * u * u ≤ t * u * bl = mul-le-mul_left (t * u) k
+    in let z : hi * bl < (t * u + 1) * bl = omega arith
+    in let r : hi < t * u + 1 = cancel_lt hi (t * u + 1) bl z
+    in omega arith
+
+-- a quotient by at least one of at most t ones is at most t
+pub bounded_quotient : (hi ah bl : ℤ) (t : ℕ) → pos 0 ≤ℤ hi → pos 0 ≤ℤ ah → pos fine ≤ℤ bl → ah ≤ℤ pos (t * fine) → IsCeiling hi (ah *ℤ pos fine) bl → hi ≤ℤ pos (t * fine)
+bounded_quotient (pos hi) (pos ah) (pos bl) t i j k m c =
+    let e = bounded_quotient_nat hi ah bl t fine (omega (arith, ints, c.nearest)) (omega (arith, ints)) (omega (arith, ints))
+    in omega (arith, ints)
+bounded_quotient (negsuc hi) ah bl t i j k m c = absurd (omega (arith, ints))
+bounded_quotient hi (negsuc ah) bl t i j k m c = absurd (omega (arith, ints))
+bounded_quotient hi ah (negsuc bl) t i j k m c = absurd (omega (arith, ints))

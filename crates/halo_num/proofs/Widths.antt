@@ -1,6 +1,5 @@
 -- How wide sums, multiples, products and printed intervals are.
-use Rattle.std.proofs.Common.{◌≡◌, ℕ, ◌+◌, ◌*◌, ◌^◌, ◌<◌, ◌≤◌, ℤ, pos, negsuc, ◌+ℤ◌, ◌-ℤ◌, ◌*ℤ◌, ◌≤ℤ◌, arith, suc, ⊎_elim, lit<}
-use Rattle.std.proofs.lemmas.Bool.{cases_lt}
+use Rattle.std.proofs.Common.{◌≡◌, ℕ, ◌+◌, ◌*◌, ◌^◌, ◌<◌, ◌≤◌, ℤ, pos, negsuc, ◌+ℤ◌, ◌-ℤ◌, ◌*ℤ◌, ◌≤ℤ◌, arith, suc, lit<}
 use Rattle.std.proofs.lemmas.Nat.{mul-le}
 use Rattle.std.proofs.lemmas.Int.{ints, clamps}
 use Rattle.std.proofs.Math.Nat.{mul-le-mul_left, mul-le-mul_right}
@@ -8,7 +7,7 @@ use Rattle.std.specs.Int.{int_min, int_max}
 use lib.IntN.{*ℤ-negsuc}
 use Rattle.halo_num.specs.Ends.{Ends, fine, printed, printed_ceiling, HasWidth, IsSized}
 use Rattle.halo_num.specs.Rounding.{IsFloor, IsCeiling}
-use Rattle.halo_num.proofs.Ring.{dist, times}
+use Rattle.halo_num.proofs.Ring.{dist, times, cancel_lt}
 
 -- a sum is as wide as its terms together
 pub width_add : (a b r : Ends) (v w : ℕ) → r.lo ≡ a.lo +ℤ b.lo → r.hi ≡ a.hi +ℤ b.hi → HasWidth a v → HasWidth b w → HasWidth r (v + w)
@@ -59,10 +58,6 @@ width_mul lo hi al ah (pos bl) (negsuc bh) v w a b i0 i1 i2 i3 i4 i5 i6 i7 f c p
 -- printed, an interval grows by less than 2 units: by at most 1 past its width rounded up
 pub width_printed : (l h lo hi : ℤ) (w : ℕ) → IsFloor l lo (pos printed) → IsCeiling h hi (pos printed) → hi ≤ℤ (lo +ℤ pos w) → h ≤ℤ (l +ℤ pos (printed_ceiling w + 1))
 width_printed l h lo hi w f c p = omega (arith, ints, f.nearest, c.nearest)
-
--- a factor that is not 0 cancels
-cancel_lt : (x y k : ℕ) → x * k < y * k → x < y
-cancel_lt x y k h = ⊎_elim (λ (l : x < y). l) (λ (l : y ≤ x). let m : y * k ≤ x * k = mul-le-mul_right k l in absurd (omega arith)) (cases_lt x y)
 
 -- the width of a quotient by at least one, of at most t ones, over naturals
 quotient_width_nat : (lo hi al ah bl bh v w t u : ℕ) → 0 < u → al * u < lo * bh + bh → hi * bl < ah * u + bl → ah ≤ al + v → bh ≤ bl + w → u ≤ bl → bl ≤ bh → ah ≤ t * u → hi ≤ lo + (v + t * w + 1)

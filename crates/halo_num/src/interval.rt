@@ -149,7 +149,10 @@ impl Ival {
         ensures high { IsCeiling result.hi (self.hi *ℤ o.hi) (pos fine) }
         ensures encloses { (n m : ℤ) (d e : ℕ) → Encloses self n d → Encloses o m e →
             Encloses result (n *ℤ m) (d * e) }
+        ensures from { pos 0 ≤ℤ result.lo }
         ensures within { self.hi ≤ℤ pos fine → o.hi ≤ℤ pos fine → IsWithin result (pos 0) (pos fine) }
+        ensures bound { (a b : ℕ) → self.hi ≤ℤ pos (a * fine) → o.hi ≤ℤ pos (b * fine) →
+            result.hi ≤ℤ pos (a * b * fine) }
         ensures narrow { (v w : ℕ) → self.hi ≤ℤ pos fine → o.hi ≤ℤ pos fine → HasWidth self v → HasWidth o w →
             HasWidth result (v + w + 1) }
         ensures width { (v w a b : ℕ) → self.hi ≤ℤ pos (a * fine) → o.hi ≤ℤ pos (b * fine) → HasWidth self v →
@@ -173,6 +176,8 @@ impl Ival {
         ensures high { IsCeiling result.hi (self.hi *ℤ pos fine) o.lo }
         ensures encloses { (n : ℤ) (m d e : ℕ) → Encloses self n d → Encloses o (pos m) e →
             Encloses result (n *ℤ pos e) (d * m) }
+        ensures from { pos 0 ≤ℤ result.lo }
+        ensures bound { (t : ℕ) → self.hi ≤ℤ pos (t * fine) → result.hi ≤ℤ pos (t * fine) }
         ensures narrow { (v w t : ℕ) → self.hi ≤ℤ pos (t * fine) → HasWidth self v → HasWidth o w →
             HasWidth result (v + t * w + 1) }
     {

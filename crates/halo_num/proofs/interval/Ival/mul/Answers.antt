@@ -1,7 +1,7 @@
 use Rattle.std.proofs.Common.{◌*ℤ◌, ap, rules, arith, lit<}
 use Rattle.std.proofs.lemmas.Int.{ints}
 use Rattle.halo_num.specs.Ends.{Ends, fine}
-use Rattle.halo_num.proofs.Products.{encloses_mul, one_mul}
+use Rattle.halo_num.proofs.Products.{encloses_mul, bounded_mul}
 use Rattle.halo_num.proofs.Widths.{width_mul}
 use Rattle.halo_num.proofs.Rounded.{ordered}
 use Rattle.halo_num.proofs.Ring.{mul_mono}
@@ -23,13 +23,16 @@ returns-clause-encloses g c = λ n m d e p q.
     in let bh = ap (λ (v : Ends). v.hi) c.o.view_is
     in encloses_mul c.args.self c.args.o _ n m d e c.requires.self_from c.requires.o_from (omega (arith, ints)) (omega (arith, ints)) (search rules) (search rules) (search rules) (search rules) p q
 
-pub returns-clause-within : goal.returns-clause-within
-returns-clause-within g c = λ x y.
+pub returns-clause-bound : goal.returns-clause-bound
+returns-clause-bound g c = λ a b x y.
     let al = ap (λ (v : Ends). v.lo) c.self.view_is
     in let ah = ap (λ (v : Ends). v.hi) c.self.view_is
     in let bl = ap (λ (v : Ends). v.lo) c.o.view_is
     in let bh = ap (λ (v : Ends). v.hi) c.o.view_is
-    in record { low = search rules; high = one_mul _ c.args.self.hi c.args.o.hi (search rules) (omega (arith, ints)) (omega (arith, ints)) x y (search rules) }
+    in bounded_mul _ c.args.self.hi c.args.o.hi a b (search rules) (omega (arith, ints)) (omega (arith, ints)) x y (search rules)
+
+pub returns-clause-within : goal.returns-clause-within
+returns-clause-within g c = λ x y. record { low = search rules; high = returns-clause-bound g c 1 1 x y }
 
 pub returns-clause-width : goal.returns-clause-width
 returns-clause-width g c = λ v w a b x y p q.

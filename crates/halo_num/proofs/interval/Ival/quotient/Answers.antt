@@ -1,7 +1,7 @@
 use Rattle.std.proofs.Common.{◌*ℤ◌, ap, rules, arith, pos}
 use Rattle.std.proofs.lemmas.Int.{ints}
 use Rattle.halo_num.specs.Ends.{Ends, fine}
-use Rattle.halo_num.proofs.Quotients.{encloses_quotient, ordered_quotient}
+use Rattle.halo_num.proofs.Quotients.{bounded_quotient, encloses_quotient, ordered_quotient}
 use Rattle.halo_num.proofs.Widths.{width_quotient}
 use Rattle.halo_num.proofs.interval.Ival.quotient.Goals as goal
 
@@ -28,3 +28,10 @@ returns-clause-narrow c = λ v w t x p q.
     in let bl = ap (λ (v : Ends). v.lo) c.o.view_is
     in let bh = ap (λ (v : Ends). v.hi) c.o.view_is
     in record { near = width_quotient _ _ c.args.self.lo c.args.self.hi c.args.o.lo c.args.o.hi v w t (search rules) (search rules) c.requires.self_from (omega (arith, ints)) c.requires.o_from (omega (arith, ints)) x (search rules) (search rules) p.near q.near }
+
+pub returns-clause-bound : goal.returns-clause-bound
+returns-clause-bound c = λ t x.
+    let al = ap (λ (v : Ends). v.lo) c.self.view_is
+    in let ah = ap (λ (v : Ends). v.hi) c.self.view_is
+    in let bl = ap (λ (v : Ends). v.lo) c.o.view_is
+    in bounded_quotient _ c.args.self.hi c.args.o.lo t (search rules) (omega (arith, ints)) c.requires.o_from x (search rules)
