@@ -1,5 +1,6 @@
 -- What 1 is worth at a start if it is due some years later: the product of the years' discounts.
 use Rattle.std.specs.Prelude.{◌≡◌, ℕ, zero, suc, ◌+◌, ◌-◌, ◌*◌, ◌≤◌, List, pos, get_or}
+use Rattle.halo_interest.specs.declared.powers.TheConstants.{LAST_TIME}
 use Rattle.halo_num.specs.Ends.{Ends, IsWithin, HasWidth, fine}
 use Rattle.halo_num.specs.Enclosure.{Encloses}
 
@@ -18,7 +19,7 @@ pub record IsPower (n d : ℕ → ℕ) (s t : ℕ) (i : Ends) : Type 0 where
   pub narrow : HasWidth i (3 * t)
   pub within : IsWithin i (pos 0) (pos fine)
 
--- the list has each power from year s up to time 200, and that of no years is exactly 1
+-- the list has each power from year s up to the last time, and that of no years is exactly 1
 pub record ArePowers (n d : ℕ → ℕ) (s : ℕ) (powers : List Ends) : Type 0 where
   pub none : power_at powers 0 ≡ record { lo = pos fine; hi = pos fine }
-  pub each : (t : ℕ) → t ≤ 200 - s → IsPower n d s t (power_at powers t)
+  pub each : (t : ℕ) → t ≤ LAST_TIME - s → IsPower n d s t (power_at powers t)

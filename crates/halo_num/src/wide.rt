@@ -8,7 +8,7 @@ ghost use Rattle.halo_num.specs.Ends.{fine};
 
 use crate::units::FINE_UNITS;
 
-/// Half of the nine-and-nine digits of 10^18: a long division goes by two digits of this size.
+/// The base of the long division: a factor of 10^18 brings down two of its digits.
 const BILLION: u128 = 1_000_000_000;
 
 /// A quotient's whole part, and what is left over.
