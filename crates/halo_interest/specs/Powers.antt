@@ -13,6 +13,10 @@ product_from f s (suc t) = product_from f s t * f (s + t)
 abbrev pub power_at : List Ends → ℕ → Ends
 power_at powers t = get_or powers t (record { lo = pos 0; hi = pos 0 })
 
+-- each power up to the last time is from 0 to 1
+pub record AreParts (powers : List Ends) : Type 0 where
+  pub each : (t : ℕ) → t ≤ LAST_TIME → IsWithin (power_at powers t) (pos 0) (pos fine)
+
 -- i encloses the product of the discounts n / d of the t years from year s, at most 3t wide, from 0 to 1
 pub record IsPower (n d : ℕ → ℕ) (s t : ℕ) (i : Ends) : Type 0 where
   pub encloses : Encloses i (pos (product_from n s t)) (product_from d s t)

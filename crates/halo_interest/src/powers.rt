@@ -1,4 +1,5 @@
-ghost use Rattle.std.specs.Prelude.{◌≡◌, ℕ, ◌-◌, ◌*◌, ◌≤◌};
+ghost use Rattle.std.specs.Prelude.{◌≡◌, ℕ, ◌-◌, ◌*◌, ◌≤◌, pos};
+ghost use Rattle.halo_num.specs.Ends.{fine, IsWithin};
 ghost use Rattle.halo_interest.specs.Powers.{power_at, IsPower, ArePowers};
 
 use halo_num::Ival;
@@ -21,10 +22,13 @@ pub struct Powers {
 impl Model for Powers {
     ghost use Rattle.std.specs.Prelude.{List};
     ghost use Rattle.halo_num.specs.Ends.{Ends};
+    ghost use Rattle.halo_interest.specs.Powers.{AreParts};
 
     ghost Value = { List Ends };
 
     ghost view = { λ powers. powers.values };
+
+    ghost invariant = { λ powers. AreParts powers.values };
 }
 
 impl Powers {
@@ -36,6 +40,7 @@ impl Powers {
     pub fn at(&self, t: u16) -> Ival
         requires { t ≤ LAST_TIME }
         ensures value { result ≡ power_at self.now t }
+        ensures within { IsWithin result (pos 0) (pos fine) }
         ensures power { (n d : ℕ → ℕ) (s : ℕ) → ArePowers n d s self.now → t ≤ LAST_TIME - s →
             IsPower n d s t result }
     {
