@@ -1,5 +1,5 @@
 // A source of records.
-ghost use Rattle.std.specs.Prelude.{◌≡◌, ◌≤◌, length, [], ◌∷◌, MatchResult, IfOk, OnErr, true, false, if◌then◌else◌};
+ghost use Rattle.std.specs.Prelude.{◌≡◌, ◌≤◌, length, [], ◌∷◌, IfOk, OnErr, true, false};
 ghost use Rattle.csv.specs.Reading.{strip_bom};
 ghost use Rattle.csv.specs.Records.{fields_of};
 ghost use Rattle.halo_records.specs.Left.{IsGoing, IsReadError, left_of};
@@ -24,7 +24,7 @@ pub struct Records<'a> {
 
 impl<'a> Model for Records<'a> {
     ghost use Rattle.std.specs.Prelude.{◌≡◌, ℕ, List, [], false, if◌then◌else◌};
-    ghost use Rattle.halo_records.specs.Left.{IsGoing, IsReadError, left_of};
+    ghost use Rattle.halo_records.specs.Left.{IsGoing, left_of};
 
     ghost Value = { List (List (List ℕ)) };
 
@@ -47,7 +47,8 @@ fn without_mark(bytes: &[u8]) -> &[u8]
 // Reads the next record of a reader that stands between two.
 fn advance(reader: &mut Reader<&[u8]>, row: &mut ByteRecord) -> Result<bool, Memory>
     requires { IsGoing reader.old }
-    ensures more { IfOk result (λ found. found ≡ true → IsGoing reader.new × (left_of reader.old ≡ fields_of row.new ∷ left_of reader.new)) }
+    ensures more { IfOk result (λ found. found ≡ true → IsGoing reader.new
+        × (left_of reader.old ≡ fields_of row.new ∷ left_of reader.new)) }
     ensures end { IfOk result (λ found. found ≡ false → left_of reader.old ≡ []) }
 {
     match reader.read_byte_record(row) {
@@ -88,11 +89,13 @@ impl<'a> Records<'a> {
         }
     }
 
-    /// Reads the next record into `row`, or answers false where there is none left. After an
-    /// error none is left.
+    /// Reads the next record into `row` and answers true, or false where none is left. After
+    /// an error none is left.
     pub fn next(&mut self, row: &mut ByteRecord) -> Result<bool, Memory>
-        ensures more { IfOk result (λ found. found ≡ true → self.old ≡ fields_of row.new ∷ self.new) }
-        ensures end { IfOk result (λ found. found ≡ false → (self.old ≡ []) × (self.new ≡ [])) }
+        ensures more { IfOk result (λ found. found ≡ true
+            → self.old ≡ fields_of row.new ∷ self.new) }
+        ensures end { IfOk result (λ found. found ≡ false
+            → (self.old ≡ []) × (self.new ≡ [])) }
         ensures memory { OnErr result (self.new ≡ []) }
     {
         if self.done {

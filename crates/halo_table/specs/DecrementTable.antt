@@ -1,5 +1,5 @@
 -- Multiple-decrement tables as plain data, and what is looked up in them.
-use Rattle.std.specs.Prelude.{ℕ, ◌+◌, ◌-◌, List, [], get_or, length}
+use Rattle.std.specs.Prelude.{ℕ, ◌+◌, ◌-◌, List, [], get_or, length, map}
 
 -- a row of a table: the survivors at its age, and of these the leavers by each cause, in the order of the causes
 pub record DecrementRow : Type 0 where
@@ -16,6 +16,10 @@ pub record DecrementTable : Type 0 where
 pub record TableFile : Type 0 where
   pub causes : List (List ℕ)
   pub tables : List DecrementTable
+
+-- the names of some tables
+abbrev pub names_of : List DecrementTable → List (List ℕ)
+names_of tables = map (λ t. t.name) tables
 
 -- a row with nobody in it, as it is past the last row of a table
 abbrev pub empty_row : DecrementRow

@@ -1,8 +1,9 @@
 -- The faults of a tables file, each stated of a record and of the records before and behind it.
-use Rattle.std.specs.Prelude.{◌≡◌, ◌≢◌, ℕ, ◌<◌, ◌≤◌, ◌+◌, ◌-◌, ◌⊎◌, ◌==◌, Bool, false, List, length, take, drop, Contains, map}
+use Rattle.std.specs.Prelude.{◌≡◌, ◌≢◌, ℕ, ◌<◌, ◌≤◌, ◌+◌, ◌-◌, ◌⊎◌, ◌==◌, Bool, false, List, length, take, drop, Contains}
 use Rattle.halo_text.specs.Name.{IsName}
 use Rattle.halo_text.specs.Number.{IsNumber, number}
 use Rattle.halo_table.specs.Record.{IsHeader, all_leavers, field, greatest_at, record_at}
+use Rattle.halo_table.specs.DecrementTable.{names_of}
 use Rattle.halo_table.specs.Grouping.{grouped}
 use Rattle.halo_table.specs.declared.fault.TableKind.{TableKind}
 use Rattle.halo_table.specs.declared.fault.TableKind.TheVariants as kind
@@ -71,7 +72,7 @@ StepHolds width names is_first_row last row k = RowHolds width row k
 
 -- the names of the tables of the records before a place
 abbrev pub names_before : List (List (List ℕ)) → ℕ → List (List ℕ)
-names_before records i = map (λ t. t.name) (grouped (drop 1 (take i records)))
+names_before records i = names_of (grouped (drop 1 (take i records)))
 
 -- the row is the last of its table
 abbrev pub Ends : List (List (List ℕ)) → ℕ → Type 0

@@ -12,6 +12,10 @@ seen_row row = record { survivors = row.survivors; leavers = row.leavers.items }
 abbrev pub seen_table : Table → DecrementTable
 seen_table t = record { name = t.name; first_age = t.first_age; rows = map seen_row t.rows.items }
 
+-- some tables in memory as tables
+abbrev pub seen_tables : List Table → List DecrementTable
+seen_tables tables = map seen_table tables
+
 -- some causes and tables in memory as what a file holds
 abbrev pub seen_file : List (List ℕ) → List Table → TableFile
-seen_file causes tables = record { causes = causes; tables = map seen_table tables }
+seen_file causes tables = record { causes = causes; tables = seen_tables tables }

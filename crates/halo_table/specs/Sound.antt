@@ -1,7 +1,7 @@
 -- What holds of the tables of every file without fault.
-use Rattle.std.specs.Prelude.{◌≡◌, ◌≢◌, ℕ, ◌+◌, ◌<◌, ◌≤◌, List, [], ◌∷◌, All, get_or, length, map, sum}
+use Rattle.std.specs.Prelude.{◌≡◌, ◌≢◌, ℕ, ◌+◌, ◌<◌, ◌≤◌, List, [], ◌∷◌, All, get_or, length, sum}
 use Rattle.halo_text.specs.Name.{IsName}
-use Rattle.halo_table.specs.DecrementTable.{DecrementRow, DecrementTable, TableFile}
+use Rattle.halo_table.specs.DecrementTable.{DecrementRow, DecrementTable, TableFile, names_of}
 
 -- a row: at least one survivor, at most 10^12, and no more leavers than survivors, by so many causes
 pub record IsSoundRow (causes : ℕ) (row : DecrementRow) : Type 0 where
@@ -33,5 +33,5 @@ pub record IsSound (file : TableFile) : Type 0 where
   pub causes : All IsName file.causes
   pub causes_apart : AreApart file.causes
   pub few_tables : length file.tables ≤ 64
-  pub tables_apart : AreApart (map (λ t. t.name) file.tables)
+  pub tables_apart : AreApart (names_of file.tables)
   pub tables : All (IsSoundTable (length file.causes)) file.tables

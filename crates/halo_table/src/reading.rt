@@ -1,5 +1,5 @@
 // A whole tables file.
-ghost use Rattle.std.specs.Prelude.{◌≡◌, ◌≤◌, ◌<◌, ℕ, List, length, ◌↔◌, ◌++◌, ◌∷◌, [], map, drop, OnOk, IfOk, IfErr, IsTrue, vec_len};
+ghost use Rattle.std.specs.Prelude.{◌≡◌, ◌≤◌, ◌<◌, ℕ, List, length, ◌↔◌, ◌++◌, ◌∷◌, [], drop, OnOk, IfOk, IfErr, IsTrue, vec_len};
 ghost use Rattle.csv.specs.Records.{fields_of};
 ghost use Rattle.halo_records.specs.Records.{records_of};
 ghost use Rattle.halo_text.specs.Name.{IsName};
@@ -7,7 +7,7 @@ ghost use Rattle.halo_table.specs.Record.{IsHeader, field};
 ghost use Rattle.halo_table.specs.Faults.{NoFault};
 ghost use Rattle.halo_table.specs.Grouping.{grouped, written_row};
 ghost use Rattle.halo_table.specs.Reading.{AreRowNumbers, IsLastName, IsLeftOpen, IsTold, ReadsTables, with_last_row};
-ghost use Rattle.halo_table.specs.Seen.{seen_row, seen_table};
+ghost use Rattle.halo_table.specs.Seen.{seen_row, seen_tables};
 
 use crate::fault::{TableFault, TableKind, TablesError};
 use crate::fields::{FIELDS_BEFORE_CAUSES, cell, is_header};
@@ -31,7 +31,8 @@ fn fault_at(row: u32, kind: TableKind) -> TablesError
 
 // Record 1 of a file, where it has no fault.
 fn read_header(alloc: Global, source: &mut Records) -> Result<ByteRecord, TablesError>
-    ensures header { IfOk result (λ header. IsHeader (fields_of header) × (length (fields_of header) ≤ 11) × (source.old ≡ fields_of header ∷ source.new)) }
+    ensures header { IfOk result (λ header. IsHeader (fields_of header)
+        × (length (fields_of header) ≤ 11) × (source.old ≡ fields_of header ∷ source.new)) }
     ensures fault { IfErr result (λ error. IsTold source.old error) }
 {
     let mut header = ByteRecord::new(alloc);
@@ -69,7 +70,8 @@ fn read_causes(alloc: Global, header: &ByteRecord) -> Result<Vec<Name>, AllocErr
 fn row_from(numbers: &RowNumbers, width: usize) -> Row
     requires low { 4 ≤ width }
     requires high { width ≤ 11 }
-    ensures { (fields : List (List ℕ)) → AreRowNumbers width fields numbers.now → seen_row result ≡ written_row fields }
+    ensures { (fields : List (List ℕ)) → AreRowNumbers width fields numbers.now
+        → seen_row result ≡ written_row fields }
 {
     let mut leavers = ArrayVec::new();
     for place in FIELDS_BEFORE_CAUSES..width {
@@ -83,7 +85,7 @@ fn row_from(numbers: &RowNumbers, width: usize) -> Row
 
 // Whether the last table has this name.
 fn is_last(tables: &[Table], name: &[u8]) -> bool
-    ensures { IsTrue result ↔ IsLastName (map seen_table tables.now) name.now }
+    ensures { IsTrue result ↔ IsLastName (seen_tables tables.now) name.now }
 {
     match tables.last() {
         Some(table) => table.name.bytes() == name,
@@ -94,7 +96,8 @@ fn is_last(tables: &[Table], name: &[u8]) -> bool
 // Puts a row behind the rows of the last table.
 fn add_to_last(tables: &mut Vec<Table>, row: Row) -> Result<(), AllocError>
     requires { 0 < vec_len tables.old }
-    ensures { OnOk result (map seen_table tables.new.items ≡ with_last_row (map seen_table tables.old.items) (seen_row row)) }
+    ensures { OnOk result (seen_tables tables.new.items
+        ≡ with_last_row (seen_tables tables.old.items) (seen_row row)) }
 {
     let last = tables.len() - 1;
     match tables[last].rows.push(row) {
@@ -111,7 +114,8 @@ fn begin_table(
     first_age: u16,
     row: Row,
 ) -> Result<(), AllocError>
-    ensures { OnOk result (map seen_table tables.new.items ≡ map seen_table tables.old.items ++ record { name = name; first_age = first_age; rows = seen_row row ∷ [] } ∷ []) }
+    ensures { OnOk result (seen_tables tables.new.items ≡ seen_tables tables.old.items
+        ++ record { name = name; first_age = first_age; rows = seen_row row ∷ [] } ∷ []) }
 {
     let mut rows = Vec::new(alloc);
     if rows.push(row).is_err() {
@@ -139,7 +143,9 @@ fn keep_row(
     requires low { 4 ≤ width }
     requires high { width ≤ 11 }
     requires numbers { AreRowNumbers width (fields_of row.now) numbers.now }
-    ensures { OnOk result ((rows : List (List (List ℕ))) → map seen_table tables.old.items ≡ grouped rows → map seen_table tables.new.items ≡ grouped (rows ++ fields_of row.now ∷ [])) }
+    ensures { OnOk result ((rows : List (List (List ℕ)))
+        → seen_tables tables.old.items ≡ grouped rows
+        → seen_tables tables.new.items ≡ grouped (rows ++ fields_of row.now ∷ [])) }
 {
     let kept = row_from(numbers, width);
     if is_last(tables, cell(row, 0)) {
@@ -159,7 +165,8 @@ fn is_left_open(
     found: bool,
     row: &ByteRecord,
 ) -> bool
-    ensures { IsTrue result ↔ IsLeftOpen count before.now (fields_of last.now) found (fields_of row.now) }
+    ensures { IsTrue result
+        ↔ IsLeftOpen count before.now (fields_of last.now) found (fields_of row.now) }
 {
     count > 1 && before.leaving != before.numbers[2] && (!found || cell(last, 0) != cell(row, 0))
 }
@@ -173,7 +180,8 @@ fn read_rows(
     requires header { IsHeader (fields_of header) }
     requires few { length (fields_of header) ≤ 11 }
     requires short { length source.old < 16777216 }
-    ensures fine { IfOk result (λ tables. NoFault (fields_of header ∷ source.old) × (map seen_table tables.items ≡ grouped source.old)) }
+    ensures fine { IfOk result (λ tables. NoFault (fields_of header ∷ source.old)
+        × (seen_tables tables.items ≡ grouped source.old)) }
     ensures fault { IfErr result (λ error. IsTold (fields_of header ∷ source.old) error) }
 {
     let width = header.len();

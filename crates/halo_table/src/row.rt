@@ -1,5 +1,5 @@
 // A row by itself.
-ghost use Rattle.std.specs.Prelude.{◌≤◌};
+ghost use Rattle.std.specs.Prelude.{◌≡◌, ◌≤◌, replicate};
 ghost use Rattle.csv.specs.Records.{fields_of};
 ghost use Rattle.halo_table.specs.Reading.{ReadsNumbers, ReadsRow};
 
@@ -20,7 +20,9 @@ pub struct RowNumbers {
 
 impl RowNumbers {
     /// Numbers that are all 0, as they stand before the first row.
-    pub fn none() -> RowNumbers {
+    pub fn none() -> RowNumbers
+        ensures { result ≡ record { numbers = replicate 11 0; leaving = 0 } }
+    {
         RowNumbers {
             numbers: [0; MOST_FIELDS],
             leaving: 0,

@@ -1,11 +1,12 @@
 // A row beside the record before it.
-ghost use Rattle.std.specs.Prelude.{◌≡◌, ◌≢◌, ◌≤◌, ◌<◌, ◌+◌, ◌-◌, ◌⊎◌, length, IsTrue, ◌↔◌, map, Contains, true, false};
+ghost use Rattle.std.specs.Prelude.{◌≡◌, ◌≢◌, ◌≤◌, ◌<◌, ◌+◌, ◌-◌, ◌⊎◌, IsTrue, ◌↔◌, Contains, true, false};
 ghost use Rattle.csv.specs.Records.{fields_of};
 ghost use Rattle.halo_text.specs.Number.{number};
+ghost use Rattle.halo_table.specs.DecrementTable.{names_of};
 ghost use Rattle.halo_table.specs.Record.{field};
 ghost use Rattle.halo_table.specs.Faults.{Continues};
 ghost use Rattle.halo_table.specs.Reading.{AreRowNumbers, ReadsStep};
-ghost use Rattle.halo_table.specs.Seen.{seen_table};
+ghost use Rattle.halo_table.specs.Seen.{seen_tables};
 
 use crate::fault::TableKind;
 use crate::fields::cell;
@@ -18,7 +19,7 @@ pub const MOST_TABLES: usize = 64;
 
 // Whether a table has this name.
 fn has_name(tables: &[Table], name: &[u8]) -> bool
-    ensures { IsTrue result ↔ Contains (map (λ t. t.name) (map seen_table tables.now)) name.now }
+    ensures { IsTrue result ↔ Contains (names_of (seen_tables tables.now)) name.now }
 {
     for table in tables {
         if table.name.bytes() == name {
@@ -30,7 +31,8 @@ fn has_name(tables: &[Table], name: &[u8]) -> bool
 
 // Whether a row starts a table whose name is there.
 fn is_again(continues: bool, tables: &[Table], row: &ByteRecord) -> bool
-    ensures { IsTrue result ↔ ((IsTrue continues → ⊥) × Contains (map (λ t. t.name) (map seen_table tables.now)) (field (fields_of row.now) 0)) }
+    ensures { IsTrue result ↔ ((IsTrue continues → ⊥)
+        × Contains (names_of (seen_tables tables.now)) (field (fields_of row.now) 0)) }
 {
     !continues && has_name(tables, cell(row, 0))
 }
@@ -42,7 +44,8 @@ fn is_one_more(continues: bool, count: usize) -> bool
     !continues && count >= MOST_TABLES
 }
 
-// Whether a row does not start a table: it is not the first row, and has the name of the row before.
+// Whether a row does not start a table: it is not the first row, and has the name of the row
+// before it.
 fn continues_table(last: &ByteRecord, row: &ByteRecord, is_first_row: bool) -> bool
     ensures { IsTrue result ↔ Continues is_first_row (fields_of last.now) (fields_of row.now) }
 {
@@ -60,7 +63,8 @@ fn is_off_age(age: u64, continues: bool, age_before: u64) -> bool
 // Whether there are no survivors, or more leavers, or not those whom the row before has left.
 fn is_off(survivors: u64, leaving: u64, continues: bool, survivors_before: u64, left: u64) -> bool
     requires { continues ≡ true → left ≤ survivors_before }
-    ensures { IsTrue result ↔ ((survivors ≡ 0) ⊎ (survivors < leaving) ⊎ (IsTrue continues × (survivors ≢ survivors_before - left))) }
+    ensures { IsTrue result ↔ ((survivors ≡ 0) ⊎ (survivors < leaving)
+        ⊎ (IsTrue continues × (survivors ≢ survivors_before - left))) }
 {
     survivors == 0 || survivors < leaving || (continues && survivors != survivors_before - left)
 }
@@ -76,9 +80,12 @@ pub fn read_step(
 ) -> Result<RowNumbers, TableKind>
     requires low { 4 ≤ width }
     requires high { width ≤ 11 }
-    requires fits { is_first_row ≡ false → before.now.leaving ≤ number (field (fields_of last.now) 2) }
-    requires known { is_first_row ≡ false → AreRowNumbers width (fields_of last.now) before.now }
-    ensures { ReadsStep width (map (λ t. t.name) (map seen_table tables.now)) is_first_row (fields_of last.now) (fields_of row.now) result }
+    requires fits { is_first_row ≡ false
+        → before.now.leaving ≤ number (field (fields_of last.now) 2) }
+    requires known { is_first_row ≡ false
+        → AreRowNumbers width (fields_of last.now) before.now }
+    ensures { ReadsStep width (names_of (seen_tables tables.now)) is_first_row
+        (fields_of last.now) (fields_of row.now) result }
 {
     let numbers = match read_row(row, width) {
         Err(kind) => return Err(kind),
