@@ -9,11 +9,6 @@ use Rattle.halo_table.specs.Sound.{AreApart, AreSoundRows, IsSoundRow}
 use Rattle.halo_table.specs.declared.table.Row.{Row}
 use Rattle.halo_table.specs.declared.table.Table.{Table}
 
--- a table has a row
-pub rows_some : (causes : ℕ) (rows : List DecrementRow) → AreSoundRows causes rows → 1 ≤ length rows
-rows_some causes [] h = absurd h
-rows_some causes (row ∷ rest) h = omega arith
-
 -- each row is sound
 pub sound_row : (causes : ℕ) (rows : List DecrementRow) (k : ℕ) → AreSoundRows causes rows → k < length rows → IsSoundRow causes (get_or rows k empty_row)
 sound_row causes [] k h lt = absurd h

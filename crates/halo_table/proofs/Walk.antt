@@ -6,7 +6,7 @@ use Rattle.std.proofs.lemmas.List.{drop-drop, get_or-drop, length-drop}
 use borrow.Author.Count.{below_more}
 use borrow.Author.Tests.{eqb-false, eqb-true}
 use Rattle.halo_text.specs.Number.{number}
-use Rattle.halo_table.specs.Record.{IsHeader, all_leavers, field, record_at}
+use Rattle.halo_table.specs.Record.{all_leavers, field, record_at}
 use Rattle.halo_table.specs.Faults.{Clean, Ends, Holds, IsFirst, IsFirstFault, NoFault, StepHolds, names_before, rank}
 use Rattle.halo_table.specs.Reading.{AreRowNumbers, IsLeftOpen}
 use Rattle.halo_table.specs.declared.row.RowNumbers.{RowNumbers}
@@ -31,66 +31,6 @@ pub record Seen (all : List (List (List ℕ))) (n : ℕ) : Type 0 where
   pub some : 1 ≤ n
   pub clean : Clean all (n - 1)
   pub last : (k : TableKind) → k ≢ kind.Closed → Holds all (n - 1) k → ⊥
-
-rank_low : (j : TableKind) → 1 ≤ rank j
-rank_low kind.Header = omega arith
-rank_low kind.Fields = omega arith
-rank_low kind.Name = omega arith
-rank_low kind.Number = omega arith
-rank_low kind.Large = omega arith
-rank_low kind.Again = omega arith
-rank_low kind.TooMany = omega arith
-rank_low kind.Age = omega arith
-rank_low kind.Decrements = omega arith
-rank_low kind.Closed = omega arith
-rank_low kind.NotBuilt = omega arith
-
--- record 1 has a fault of its own
-pub bad_header : (all : List (List (List ℕ))) → (IsHeader (record_at all 0) → ⊥) → IsFirstFault all 1 kind.Header
-bad_header all h = record {
-  counted = omega arith;
-  within = inl refl;
-  kind_first = record { here = (refl, h); none_before = (λ j lt _. absurd (omega (arith, rank_low j))) };
-  clean = (λ i lt k _. absurd (omega arith));
-}
-
--- of record 1 only two kinds are looked at
-only_two : (all : List (List (List ℕ))) → IsHeader (record_at all 0) → (j : TableKind) → j ≢ kind.TooMany → j ≢ kind.Closed → Holds all 0 j → ⊥
-only_two all h kind.Header a b x = x.1 h
-only_two all h kind.TooMany a b x = a refl
-only_two all h kind.Closed a b x = b refl
-only_two all h kind.Fields a b x = absurd (omega (arith, x.0))
-only_two all h kind.Name a b x = absurd (omega (arith, x.0))
-only_two all h kind.Number a b x = absurd (omega (arith, x.0))
-only_two all h kind.Large a b x = absurd (omega (arith, x.0))
-only_two all h kind.Again a b x = absurd (omega (arith, x.0))
-only_two all h kind.Age a b x = absurd (omega (arith, x.0))
-only_two all h kind.Decrements a b x = absurd (omega (arith, x.0))
-only_two all h kind.NotBuilt a b x = absurd (omega (arith, x.0))
-
-pub many_causes : (all : List (List (List ℕ))) → IsHeader (record_at all 0) → 11 < length (record_at all 0) → IsFirstFault all 1 kind.TooMany
-many_causes all h m = record {
-  counted = omega arith;
-  within = inl refl;
-  kind_first = record { here = inl (refl, m); none_before = (λ j lt x. only_two all h j (λ e. absurd (omega (arith, ap rank e))) (λ e. absurd (omega (arith, ap rank e))) x) };
-  clean = (λ i lt k _. absurd (omega arith));
-}
-
-header_last : (all : List (List (List ℕ))) → IsHeader (record_at all 0) → length (record_at all 0) ≤ 11 → (k : TableKind) → k ≢ kind.Closed → Holds all 0 k → ⊥
-header_last all h few kind.Header b x = x.1 h
-header_last all h few kind.Fields b x = absurd (omega (arith, x.0))
-header_last all h few kind.Name b x = absurd (omega (arith, x.0))
-header_last all h few kind.Number b x = absurd (omega (arith, x.0))
-header_last all h few kind.Large b x = absurd (omega (arith, x.0))
-header_last all h few kind.Again b x = absurd (omega (arith, x.0))
-header_last all h few kind.TooMany b x = elim x [ inl y ↦ absurd (omega (arith, y.1)) | inr y ↦ absurd (omega (arith, y.0)) ]
-header_last all h few kind.Age b x = absurd (omega (arith, x.0))
-header_last all h few kind.Decrements b x = absurd (omega (arith, x.0))
-header_last all h few kind.Closed b x = b refl
-header_last all h few kind.NotBuilt b x = absurd (omega (arith, x.0))
-
-pub seen_header : (all : List (List (List ℕ))) → IsHeader (record_at all 0) → length (record_at all 0) ≤ 11 → Seen all 1
-seen_header all h few = record { some = omega arith; clean = (λ i lt k _. absurd (omega arith)); last = header_last all h few }
 
 -- the record before was left open
 pub closed_fault : (all : List (List (List ℕ))) (n : ℕ) → Seen all n → n ≤ length all → Holds all (n - 1) kind.Closed → IsFirstFault all n kind.Closed
