@@ -1,4 +1,4 @@
--- Fields by their place, and the leavers of a row.
+-- The fields of a record, and the numbers of a row, by their place.
 use Rattle.std.proofs.Common.{◌≡◌, ℕ, zero, suc, ◌+◌, ◌<◌, ◌≤◌, List, [], ◌∷◌, get_or, length, None, Some, refl, arith, ◌∙◌}
 use Rattle.csv.specs.Records.{field_at}
 use Rattle.halo_text.specs.Number.{IsNumber, number}
@@ -8,18 +8,21 @@ use borrow.Author.Count.{below_more}
 use Rattle.std.proofs.Math.ListN.{set}
 use Rattle.std.proofs.lemmas.List.{get_or-set_other, get_or-set_same}
 
+-- a field that is there
 pub cell_some : (fields : List (List ℕ)) (i : ℕ) (f : List ℕ) → Some f ≡ field_at fields i → f ≡ field fields i
 unfolding field_at
 cell_some [] i f e = cc e
 cell_some (x ∷ xs) zero f e = cc e
 cell_some (x ∷ xs) (suc i) f e = cell_some xs i f e
 
+-- a field that is not there
 pub cell_none : (fields : List (List ℕ)) (i : ℕ) → None ≡ field_at fields i → [] ≡ field fields i
 unfolding field_at
 cell_none [] i e = refl
 cell_none (x ∷ xs) zero e = cc e
 cell_none (x ∷ xs) (suc i) e = cell_none xs i e
 
+-- what is known of the number at a place
 abbrev NumberIn : List (List ℕ) → List ℕ → ℕ → Type 0
 NumberIn row numbers j = 1 ≤ j → IsNumber (field row j) × (get_or numbers j 0 ≡ number (field row j)) × (number (field row j) ≤ greatest_at j)
 

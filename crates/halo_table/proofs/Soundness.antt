@@ -33,15 +33,15 @@ stable_name text h = record {
 }
 
 -- what is known of a row of a file without fault, where record 1 has so many fields
-record RowFacts (width : ℕ) (row : List (List ℕ)) : Type 0 where
-  fields : length row ≡ width
-  named : IsName (field row 0)
-  age : number (field row 1) ≤ 150
-  some : 1 ≤ number (field row 2)
-  small : number (field row 2) ≤ 1000000000000
-  fits : all_leavers row ≤ number (field row 2)
+pub record RowFacts (width : ℕ) (row : List (List ℕ)) : Type 0 where
+  pub fields : length row ≡ width
+  pub named : IsName (field row 0)
+  pub age : number (field row 1) ≤ 150
+  pub some : 1 ≤ number (field row 2)
+  pub small : number (field row 2) ≤ 1000000000000
+  pub fits : all_leavers row ≤ number (field row 2)
 
-row_facts : (all : List (List (List ℕ))) (i : ℕ) → 1 ≤ i → 4 ≤ length (record_at all 0) → ((k : _) → Holds all i k → ⊥) → RowFacts (length (record_at all 0)) (record_at all i)
+pub row_facts : (all : List (List (List ℕ))) (i : ℕ) → 1 ≤ i → 4 ≤ length (record_at all 0) → ((k : _) → Holds all i k → ⊥) → RowFacts (length (record_at all 0)) (record_at all i)
 row_facts all i some four clean =
     let width : length (record_at all i) ≡ length (record_at all 0) = elim (cases_lt (length (record_at all i)) (length (record_at all 0))) [
       | inl lt ↦ absurd (clean kind.Fields (omega arith, (λ e. absurd (omega arith))))
@@ -79,16 +79,16 @@ sound_one width row f closed = record {
 }
 
 -- the first of the tables of some records begins with the first record
-record Front (row : List (List ℕ)) (tables : List DecrementTable) : Type 0 where
-  first : DecrementTable
-  others : List DecrementTable
-  later : List DecrementRow
-  tables_are : tables ≡ first ∷ others
-  name : first.name ≡ field row 0
-  age : first.first_age ≡ number (field row 1)
-  rows : first.rows ≡ written_row row ∷ later
+pub record Front (row : List (List ℕ)) (tables : List DecrementTable) : Type 0 where
+  pub first : DecrementTable
+  pub others : List DecrementTable
+  pub later : List DecrementRow
+  pub tables_are : tables ≡ first ∷ others
+  pub name : first.name ≡ field row 0
+  pub age : first.first_age ≡ number (field row 1)
+  pub rows : first.rows ≡ written_row row ∷ later
 
-front : (row : List (List ℕ)) (tables : List DecrementTable) → Front row (with_record row tables)
+pub front : (row : List (List ℕ)) (tables : List DecrementTable) → Front row (with_record row tables)
 front row [] = record { first = one_row_table row; others = []; later = []; tables_are = refl; name = refl; age = refl; rows = refl }
 front row (t ∷ tables) = go (bytes_eq t.name (field row 0)) refl
   where
@@ -115,18 +115,18 @@ sound_before width row next t later f s age rows up falls = record {
 }
 
 -- what is known of the record behind a row
-record NextFacts (row next : List (List ℕ)) : Type 0 where
-  up : field row 0 ≡ field next 0 → number (field next 1) ≡ number (field row 1) + 1
-  falls : field row 0 ≡ field next 0 → number (field next 2) ≡ number (field row 2) - all_leavers row
+pub record NextFacts (row next : List (List ℕ)) : Type 0 where
+  pub up : field row 0 ≡ field next 0 → number (field next 1) ≡ number (field row 1) + 1
+  pub falls : field row 0 ≡ field next 0 → number (field next 2) ≡ number (field row 2) - all_leavers row
 
 -- numbers of which it is absurd that they differ are equal
-stable_equal : (a b : ℕ) → (a ≢ b → ⊥) → a ≡ b
+pub stable_equal : (a b : ℕ) → (a ≢ b → ⊥) → a ≡ b
 stable_equal a b h = elim (cases_lt a b) [
   | inl lt ↦ absurd (h (λ e. absurd (omega arith)))
   | inr le ↦ elim (cases_lt b a) [ inl lt ↦ absurd (h (λ e. absurd (omega arith))) | inr ge ↦ omega arith ]
 ]
 
-next_facts : (all : List (List (List ℕ))) (i : ℕ) → 1 ≤ i → ((k : _) → Holds all (i + 1) k → ⊥) → NextFacts (record_at all i) (record_at all (i + 1))
+pub next_facts : (all : List (List (List ℕ))) (i : ℕ) → 1 ≤ i → ((k : _) → Holds all (i + 1) k → ⊥) → NextFacts (record_at all i) (record_at all (i + 1))
 next_facts all i some clean =
     let back : i + 1 - 1 ≡ i = omega arith in
     let follows : field (record_at all i) 0 ≡ field (record_at all (i + 1)) 0 → Continues (i + 1 == 1) (record_at all (i + 1 - 1)) (record_at all (i + 1)) = (λ e. (not_one (i + 1) (omega arith), rw back e)) in
@@ -247,7 +247,7 @@ sound_tables all header fine =
         rw (end, take_all (length all) all (omega arith)) at h
 
 -- a record 1 of which it is absurd that it is none is one
-stable_header : (fields : List (List ℕ)) → ((IsHeader fields → ⊥) → ⊥) → IsHeader fields
+pub stable_header : (fields : List (List ℕ)) → ((IsHeader fields → ⊥) → ⊥) → IsHeader fields
 stable_header fields h = record {
   four = stable_below 4 (length fields) (λ no. h (λ x. no x.four));
   table = stable_bytes (field fields 0) (codes "table") (λ no. h (λ x. no x.table));
