@@ -7,8 +7,17 @@ ghost use Rattle.halo_table.specs.Record.{IsHeader, IsNewCause, field, greatest_
 use csv::ByteRecord;
 use halo_text::{NumberFault, is_name, number_up_to};
 
-/// The fields of a record in front of its causes: name, age and survivors.
-pub const FIELDS_BEFORE_CAUSES: usize = 3;
+/// The place of a table's name in a row.
+pub const NAME: usize = 0;
+
+/// The place of the age in a row.
+pub const AGE: usize = 1;
+
+/// The place of the survivors in a row.
+pub const SURVIVORS: usize = 2;
+
+/// The place of the first cause in record 1, and of its leavers in a row.
+pub const FIRST_CAUSE: usize = 3;
 
 /// The greatest age in a tables file, in years.
 const GREATEST_AGE: u64 = 150;
@@ -30,7 +39,7 @@ pub fn cell(fields: &ByteRecord, place: usize) -> &[u8]
 pub fn number_at(fields: &ByteRecord, place: usize) -> Result<u64, NumberFault>
     ensures { ReadsNumber (field (fields_of fields.now) place) (greatest_at place) result }
 {
-    let limit = if place == 1 {
+    let limit = if place == AGE {
         GREATEST_AGE
     } else {
         GREATEST_COUNT
@@ -45,7 +54,7 @@ fn is_new_cause(fields: &ByteRecord, place: usize) -> bool
     if !is_name(cell(fields, place)) {
         return false;
     }
-    for earlier in FIELDS_BEFORE_CAUSES..place {
+    for earlier in FIRST_CAUSE..place {
         if cell(fields, earlier) == cell(fields, place) {
             return false;
         }
@@ -57,14 +66,14 @@ fn is_new_cause(fields: &ByteRecord, place: usize) -> bool
 pub fn is_header(fields: &ByteRecord) -> bool
     ensures { IsTrue result ↔ IsHeader (fields_of fields.now) }
 {
-    if fields.len() <= FIELDS_BEFORE_CAUSES
-        || cell(fields, 0) != b"table".as_slice()
-        || cell(fields, 1) != b"age".as_slice()
-        || cell(fields, 2) != b"l".as_slice()
+    if fields.len() <= FIRST_CAUSE
+        || cell(fields, NAME) != b"table".as_slice()
+        || cell(fields, AGE) != b"age".as_slice()
+        || cell(fields, SURVIVORS) != b"l".as_slice()
     {
         return false;
     }
-    for place in FIELDS_BEFORE_CAUSES..fields.len() {
+    for place in FIRST_CAUSE..fields.len() {
         if !is_new_cause(fields, place) {
             return false;
         }

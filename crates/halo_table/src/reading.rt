@@ -10,7 +10,7 @@ ghost use Rattle.halo_table.specs.Reading.{AreRowNumbers, IsLastName, IsLeftOpen
 ghost use Rattle.halo_table.specs.Seen.{seen_row, seen_tables};
 
 use crate::fault::{TableFault, TableKind, TablesError};
-use crate::fields::{FIELDS_BEFORE_CAUSES, cell, is_header};
+use crate::fields::{AGE, FIRST_CAUSE, NAME, SURVIVORS, cell, is_header};
 use crate::held::Tables;
 use crate::naming::Name;
 use crate::row::{MOST_FIELDS, RowNumbers};
@@ -57,7 +57,7 @@ fn read_causes(alloc: Global, header: &ByteRecord) -> Result<Vec<Name>, AllocErr
     ensures { IfOk result (λ causes. causes.items ≡ drop 3 (fields_of header.now)) }
 {
     let mut causes = Vec::new(alloc);
-    for place in FIELDS_BEFORE_CAUSES..header.len() {
+    for place in FIRST_CAUSE..header.len() {
         match Name::new(cell(header, place)) {
             Some(cause) => causes.push(cause)?,
             None => unreachable!(),
@@ -74,11 +74,11 @@ fn row_from(numbers: &RowNumbers, width: usize) -> Row
         → seen_row result ≡ written_row fields }
 {
     let mut leavers = ArrayVec::new();
-    for place in FIELDS_BEFORE_CAUSES..width {
+    for place in FIRST_CAUSE..width {
         leavers.push(numbers.numbers[place]);
     }
     Row {
-        survivors: numbers.numbers[2],
+        survivors: numbers.numbers[SURVIVORS],
         leavers,
     }
 }
@@ -148,11 +148,11 @@ fn keep_row(
         → seen_tables tables.new.items ≡ grouped (rows ++ fields_of row.now ∷ [])) }
 {
     let kept = row_from(numbers, width);
-    if is_last(tables, cell(row, 0)) {
+    if is_last(tables, cell(row, NAME)) {
         return add_to_last(tables, kept);
     }
-    match Name::new(cell(row, 0)) {
-        Some(name) => begin_table(alloc, tables, name, numbers.numbers[1] as u16, kept),
+    match Name::new(cell(row, NAME)) {
+        Some(name) => begin_table(alloc, tables, name, numbers.numbers[AGE] as u16, kept),
         None => unreachable!(),
     }
 }
@@ -168,7 +168,9 @@ fn is_left_open(
     ensures { IsTrue result
         ↔ IsLeftOpen count before.now (fields_of last.now) found (fields_of row.now) }
 {
-    count > 1 && before.leaving != before.numbers[2] && (!found || cell(last, 0) != cell(row, 0))
+    count > 1
+        && before.leaving != before.numbers[SURVIVORS]
+        && (!found || cell(last, NAME) != cell(row, NAME))
 }
 
 // The tables of the records behind record 1, or the first fault.

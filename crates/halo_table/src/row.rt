@@ -4,7 +4,7 @@ ghost use Rattle.csv.specs.Records.{fields_of};
 ghost use Rattle.halo_table.specs.Reading.{ReadsNumbers, ReadsRow};
 
 use crate::fault::TableKind;
-use crate::fields::{FIELDS_BEFORE_CAUSES, cell, number_at};
+use crate::fields::{FIRST_CAUSE, NAME, cell, number_at};
 use csv::ByteRecord;
 use halo_text::{NumberFault, is_name};
 
@@ -62,14 +62,14 @@ pub fn read_row(row: &ByteRecord, width: usize) -> Result<RowNumbers, TableKind>
     if row.len() != width {
         return Err(TableKind::Fields);
     }
-    if !is_name(cell(row, 0)) {
+    if !is_name(cell(row, NAME)) {
         return Err(TableKind::Name);
     }
     match read_numbers(row, width) {
         Err(kind) => Err(kind),
         Ok(numbers) => {
             let mut leaving = 0;
-            for place in FIELDS_BEFORE_CAUSES..width {
+            for place in FIRST_CAUSE..width {
                 leaving += numbers[place];
             }
             Ok(RowNumbers { numbers, leaving })

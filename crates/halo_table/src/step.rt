@@ -9,7 +9,7 @@ ghost use Rattle.halo_table.specs.Reading.{AreRowNumbers, ReadsStep};
 ghost use Rattle.halo_table.specs.Seen.{seen_tables};
 
 use crate::fault::TableKind;
-use crate::fields::cell;
+use crate::fields::{AGE, NAME, SURVIVORS, cell};
 use crate::row::{RowNumbers, read_row};
 use crate::table::Table;
 use csv::ByteRecord;
@@ -34,7 +34,7 @@ fn is_again(continues: bool, tables: &[Table], row: &ByteRecord) -> bool
     ensures { IsTrue result ↔ ((IsTrue continues → ⊥)
         × Contains (names_of (seen_tables tables.now)) (field (fields_of row.now) 0)) }
 {
-    !continues && has_name(tables, cell(row, 0))
+    !continues && has_name(tables, cell(row, NAME))
 }
 
 // Whether a row starts one table too many.
@@ -49,7 +49,7 @@ fn is_one_more(continues: bool, count: usize) -> bool
 fn continues_table(last: &ByteRecord, row: &ByteRecord, is_first_row: bool) -> bool
     ensures { IsTrue result ↔ Continues is_first_row (fields_of last.now) (fields_of row.now) }
 {
-    !is_first_row && cell(last, 0) == cell(row, 0)
+    !is_first_row && cell(last, NAME) == cell(row, NAME)
 }
 
 // Whether the age is not the one behind that of the row before.
@@ -98,15 +98,15 @@ pub fn read_step(
     if is_one_more(continues, tables.len()) {
         return Err(TableKind::TooMany);
     }
-    if is_off_age(numbers.numbers[1], continues, before.numbers[1]) {
+    if is_off_age(numbers.numbers[AGE], continues, before.numbers[AGE]) {
         return Err(TableKind::Age);
     }
-    let survivors = numbers.numbers[2];
+    let survivors = numbers.numbers[SURVIVORS];
     if is_off(
         survivors,
         numbers.leaving,
         continues,
-        before.numbers[2],
+        before.numbers[SURVIVORS],
         before.leaving,
     ) {
         return Err(TableKind::Decrements);
