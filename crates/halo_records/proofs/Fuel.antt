@@ -14,19 +14,23 @@ use Rattle.halo_records.specs.Records.{records_of}
 abbrev Between : State × Action → Type 0
 Between p = is_end p.1 ≡ true → ends_at_end p.0 ≡ false
 
+-- the actions inside a field
 in-between : (a b d : Bool) → Between (if a then (st.StartField, act.EndField) else if b then (if d then st.AfterCr else st.StartRecord, act.EndRecord) else (st.InField, act.Copy))
 in-between true b d e = cc e
 in-between false true true e = refl
 in-between false true false e = refl
 in-between false false d e = cc e
 
+-- the same in a field
 field-between : (c : ℕ) → Between (in_field default_config c)
 field-between c = in-between (c == 44) ((c == 13) || (c == 10)) (c == 13)
 
+-- the same at the start of a field
 start-between : (a : Bool) (c : ℕ) → Between (if a then (st.InQuoted, act.Skip) else in_field default_config c)
 start-between true c e = cc e
 start-between false c e = field-between c e
 
+-- the same at the start of a record
 record-between : (a : Bool) (c : ℕ) → Between (if a then (st.StartRecord, act.Skip) else start_field default_config c)
 record-between true c e = cc e
 record-between false c e = start-between (c == 34) c e
@@ -89,6 +93,7 @@ abbrev Takes : ℕ → Option Read → Type 0
 Takes n None = Unit {0}
 Takes n (Some p) = (ends_at_end p.1 ≡ false) × (length p.2 < n)
 
+-- the next record takes a byte
 next-takes : (s : State) (bytes : List ℕ) → ends_at_end s ≡ false → Takes (length bytes) (next_record default_config s [] [] bytes)
 unfolding next_record
 next-takes s [] b = rw b tt
@@ -125,6 +130,7 @@ rest-cons s bytes p b e =
     let t = rw e at (next-takes s bytes b) in
     (t.0, rw (add-one, e) (ap (λ (q : List (List (List ℕ))). p.0 ∷ q) (fuel (length bytes) (length p.2 + 1) p.1 p.2 t.0 t.1 (omega arith))))
 
+-- where there is no next record, none is left
 pub rest-nil : (s : State) (bytes : List ℕ) → next_record default_config s [] [] bytes ≡ None → rest_of s (Some bytes) ≡ []
 unfolding records_from
 rest-nil s bytes e = rw (add-one, e) refl
@@ -140,6 +146,7 @@ from-length (suc n) s bytes b = go (next_record default_config s [] [] bytes) (n
     go None t more = omega arith
     go (Some p) t more = let h = more p.1 p.2 t.0 in let k = t.1 in omega arith
 
+-- dropping a mark makes no bytes more
 strip-length : (xs : List ℕ) → length (strip_bom xs) ≤ length xs
 unfolding strip_bom
 strip-length [] = omega arith
@@ -151,6 +158,7 @@ strip-length (a ∷ b ∷ c ∷ rest) = by (is_bom a b c)
     by true = omega arith
     by false = omega arith
 
+-- a file has no more records than bytes
 pub few_records : (bytes : List ℕ) → length (records_of bytes) ≤ length bytes
 few_records bytes =
     let h = from-length (length (strip_bom (strip_bom bytes)) + 1) st.StartRecord (strip_bom (strip_bom bytes)) refl in

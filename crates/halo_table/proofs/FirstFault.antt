@@ -10,6 +10,7 @@ kind_at : ℕ → TableKind
 kind_at n =
     get_or (kind.NotBuilt ∷ kind.Header ∷ kind.Fields ∷ kind.Name ∷ kind.Number ∷ kind.Large ∷ kind.Again ∷ kind.TooMany ∷ kind.Age ∷ kind.Decrements ∷ kind.Closed ∷ []) n kind.NotBuilt
 
+-- it is that kind
 kind_at_rank : (k : TableKind) → kind_at (rank k) ≡ k
 unfolding kind_at
 kind_at_rank kind.Header = refl
@@ -34,6 +35,7 @@ no_later all a b j k f g lt =
     let low = f.counted in
     g.clean (a - 1) (omega arith) j f.kind_first.here
 
+-- a first kind has no other first kind before it
 no_before : (all : List (List (List ℕ))) (i : ℕ) (j k : TableKind) → IsFirst (Holds all i) j → IsFirst (Holds all i) k → rank j < rank k → ⊥
 no_before all i j k f g lt = g.none_before j lt f.here
 

@@ -58,6 +58,7 @@ off_age_is width first last row r b follows low f here before = (
   (λ h. (f.1 h.0, (λ e. h.1 (let x = (here 1 (omega arith) (omega arith)).1 in let y = (before h.0.0 1 (omega arith) (omega arith)).1 in omega arith)))),
 )
 
+-- the same for survivors and leavers
 pub off_survivors_is : (width : ℕ) (first : Bool) (last row : List (List ℕ)) (r b : List ℕ) (leaving left : ℕ) (follows : Bool) → 4 ≤ width → (IsTrue follows ↔ Continues first last row)
     → AreNumbers width row r → leaving ≡ all_leavers row → (first ≡ false → AreNumbers width last b × (left ≡ all_leavers last))
     → ((get_or r 2 0 ≡ 0) ⊎ (get_or r 2 0 < leaving) ⊎ (IsTrue follows × (get_or r 2 0 ≢ get_or b 2 0 - left))) ↔ OffSurvivors first last row

@@ -133,12 +133,14 @@ record StepKnown (all : List (List (List ℕ))) (i : ℕ) : Type 0 where
   age : Continues (i == 1) (record_at all (i - 1)) (record_at all i) → number (field (record_at all i) 1) ≡ number (field (record_at all (i - 1)) 1) + 1
   falls : Continues (i == 1) (record_at all (i - 1)) (record_at all i) → number (field (record_at all i) 2) ≡ number (field (record_at all (i - 1)) 2) - all_leavers (record_at all (i - 1))
 
+-- the first row
 known_first : (all : List (List (List ℕ))) → StepKnown all 1
 known_first all = record { either = inl (ap (λ (rows : List (List (List ℕ))). names rows) (rows_none all)); age = (λ co. cc co.0); falls = (λ co. cc co.0) }
   where
     names : List (List (List ℕ)) → List (List ℕ)
     names rows = map (λ (t : DecrementTable). t.name) (grouped rows)
 
+-- each later row
 known_next : (all : List (List (List ℕ))) → HasFirstForm all → (i : ℕ) → 1 ≤ i → i + 1 < length all → StepKnown all (i + 1)
 known_next all f i low lt =
     let follows = f.follows i low lt in

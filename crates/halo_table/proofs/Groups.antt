@@ -61,9 +61,11 @@ behind_new (t ∷ []) r h = go (bytes_eq t.name (field r 0)) refl
     go false e = rw e refl
 behind_new (t ∷ u ∷ ts) r h = ap (λ (xs : List DecrementTable). t ∷ xs) (behind_new (u ∷ ts) r h)
 
+-- one record more with the name of the last table
 pub grouped_last : (rows : List (List (List ℕ))) (r : List (List ℕ)) → IsLastName (grouped rows) (field r 0) → grouped (rows ++ r ∷ []) ≡ with_last_row (grouped rows) (written_row r)
 grouped_last rows r h = grouped_behind rows r ∙ behind_last (grouped rows) r h
 
+-- one record more with another name
 pub grouped_new : (rows : List (List (List ℕ))) (r : List (List ℕ)) → (IsLastName (grouped rows) (field r 0) → ⊥) → grouped (rows ++ r ∷ []) ≡ grouped rows ++ one_row_table r ∷ []
 grouped_new rows r h = grouped_behind rows r ∙ behind_new (grouped rows) r h
 
@@ -89,6 +91,7 @@ behind_name (t ∷ u ∷ ts) r =
     let (v, more, e) = behind_some (u ∷ ts) r in
     rw e (rw e at (behind_name (u ∷ ts) r))
 
+-- so it is where records are grouped
 pub grouped_name : (rows : List (List (List ℕ))) (r : List (List ℕ)) → IsLastName (grouped (rows ++ r ∷ [])) (field r 0)
 grouped_name rows r = rw (grouped_behind rows r) (behind_name (grouped rows) r)
 

@@ -88,6 +88,7 @@ pub record Front (row : List (List ℕ)) (tables : List DecrementTable) : Type 0
   pub age : first.first_age ≡ number (field row 1)
   pub rows : first.rows ≡ written_row row ∷ later
 
+-- the first table begins so where a record is put in front
 pub front : (row : List (List ℕ)) (tables : List DecrementTable) → Front row (with_record row tables)
 front row [] = record { first = one_row_table row; others = []; later = []; tables_are = refl; name = refl; age = refl; rows = refl }
 front row (t ∷ tables) = go (bytes_eq t.name (field row 0)) refl
@@ -126,6 +127,7 @@ stable_equal a b h = elim (cases_lt a b) [
   | inr le ↦ elim (cases_lt b a) [ inl lt ↦ absurd (h (λ e. absurd (omega arith))) | inr ge ↦ omega arith ]
 ]
 
+-- so it is in a file without fault
 pub next_facts : (all : List (List (List ℕ))) (i : ℕ) → 1 ≤ i → ((k : _) → Holds all (i + 1) k → ⊥) → NextFacts (record_at all i) (record_at all (i + 1))
 next_facts all i some clean =
     let back : i + 1 - 1 ≡ i = omega arith in
@@ -213,6 +215,7 @@ names_next all n clean some room known = go (bytes_eq (field (record_at all n) 0
           apart = apart_more (names_before all (n + 1)) (field (record_at all (n + 1)) 0) known.apart (λ there. clean (n + 1) room kind.Again (omega arith, (starts, there)));
         })
 
+-- what is known of the names in the first n + 1 records
 names_known : (all : List (List (List ℕ))) (n : ℕ) → Clean all (length all) → n + 1 ≤ length all → NamesKnown (names_before all (n + 1))
 names_known all zero clean room = rw (rows_none all) (record { few = omega arith; apart = apart_none })
 names_known all (suc zero) clean room = rw (names_first all (omega arith)) (record { few = omega arith; apart = apart_one (field (record_at all 1) 0) })

@@ -13,8 +13,10 @@ number_more text i h d =
     let b = digit_value_digit (get_or text i 0) d in
     omega arith
 
+-- one digit more behind digits
 pub all_more : (text : List ℕ) (i : ℕ) → i < length text → All IsDigit (take i text) → IsDigit (get_or text i 0) → All IsDigit (take (i + 1) text)
 all_more text i h a d = All-more IsDigit text i 0 h a d
 
+-- each byte of digits is a digit
 pub not_all : (text : List ℕ) (i : ℕ) → i < length text → All IsDigit text → IsDigit (get_or text i 0)
 not_all text i h a = All-get_or IsDigit text i 0 h a

@@ -5,7 +5,7 @@ use Rattle.halo_table.specs.Reading.{AreRowNumbers}
 use Rattle.halo_table.specs.Record.{record_at}
 use Rattle.halo_table.specs.Seen.{seen_table}
 use Rattle.halo_table.proofs.Groups.{rows_before}
-use Rattle.halo_table.proofs.Walk.{Seen}
+use Rattle.halo_table.proofs.Walk.{ReadSoFar}
 use Rattle.halo_table.proofs.reading.read_rows.Given as goal
 
 abbrev pub invariant-rows : goal.invariant-rows
@@ -19,7 +19,7 @@ invariant-rows l =
       wide : 4 ≤ l.width;
       narrow : l.width ≤ 11;
       width : l.width ≡ length (record_at all 0);
-      seen : Seen all l.count;
+      seen : ReadSoFar all l.count;
       before : 1 < l.count → AreRowNumbers l.width (record_at all (l.count - 1)) l.before;
       tables : map seen_table l.tables.items ≡ grouped (rows_before all l.count);
     }
