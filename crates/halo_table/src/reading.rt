@@ -100,10 +100,8 @@ fn add_to_last(tables: &mut Vec<Table>, row: Row) -> Result<(), AllocError>
         ≡ with_last_row (seen_tables tables.old.items) (seen_row row)) }
 {
     let last = tables.len() - 1;
-    match tables[last].rows.push(row) {
-        Ok(()) => Ok(()),
-        Err(_) => Err(AllocError),
-    }
+    tables[last].rows.push(row)?;
+    Ok(())
 }
 
 // Begins a table with a row.
@@ -118,18 +116,14 @@ fn begin_table(
         ++ record { name = name; first_age = first_age; rows = seen_row row ∷ [] } ∷ []) }
 {
     let mut rows = Vec::new(alloc);
-    if rows.push(row).is_err() {
-        return Err(AllocError);
-    }
+    rows.push(row)?;
     let table = Table {
         name,
         first_age,
         rows,
     };
-    match tables.push(table) {
-        Ok(()) => Ok(()),
-        Err(_) => Err(AllocError),
-    }
+    tables.push(table)?;
+    Ok(())
 }
 
 // Keeps a row behind those of the records so far.
@@ -220,15 +214,10 @@ pub fn read_all(alloc: Global, bytes: &[u8]) -> Result<Tables, TablesError>
     ensures { ReadsTables (records_of bytes.now) result }
 {
     let mut source = Records::new(alloc, bytes);
-    let header = match read_header(alloc, &mut source) {
-        Ok(header) => header,
-        Err(error) => return Err(error),
-    };
+    let header = read_header(alloc, &mut source)?;
     let Ok(causes) = read_causes(alloc, &header) else {
         return Err(TablesError::Memory);
     };
-    match read_rows(alloc, &mut source, header) {
-        Ok(tables) => Ok(Tables::of(causes, tables)),
-        Err(error) => Err(error),
-    }
+    let tables = read_rows(alloc, &mut source, header)?;
+    Ok(Tables::of(causes, tables))
 }

@@ -65,14 +65,10 @@ pub fn read_row(row: &ByteRecord, width: usize) -> Result<RowNumbers, TableKind>
     if !is_name(cell(row, NAME)) {
         return Err(TableKind::Name);
     }
-    match read_numbers(row, width) {
-        Err(kind) => Err(kind),
-        Ok(numbers) => {
-            let mut leaving = 0;
-            for place in FIRST_CAUSE..width {
-                leaving += numbers[place];
-            }
-            Ok(RowNumbers { numbers, leaving })
-        }
+    let numbers = read_numbers(row, width)?;
+    let mut leaving = 0;
+    for place in FIRST_CAUSE..width {
+        leaving += numbers[place];
     }
+    Ok(RowNumbers { numbers, leaving })
 }

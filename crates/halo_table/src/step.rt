@@ -87,10 +87,7 @@ pub fn read_step(
     ensures { ReadsStep width (names_of (seen_tables tables.now)) is_first_row
         (fields_of last.now) (fields_of row.now) result }
 {
-    let numbers = match read_row(row, width) {
-        Err(kind) => return Err(kind),
-        Ok(numbers) => numbers,
-    };
+    let numbers = read_row(row, width)?;
     let continues = continues_table(last, row, is_first_row);
     if is_again(continues, tables, row) {
         return Err(TableKind::Again);
