@@ -6,10 +6,9 @@ ghost use Rattle.std.specs.Prelude.{◌≡◌, ◌⊎◌, IfErr};
 
 use halo_io::{FileShelf, OutSink};
 use halo_top::run;
-use std::env;
 use std::env::Env;
-use std::io;
 use std::process::ExitCode;
+use std::{env, io};
 
 /// The status where there is no memory for the words.
 const NO_MEMORY: u8 = 9;

@@ -9,7 +9,8 @@ const CONTRACT: &[u8] = b"interest 1/1\nlife x m 60\npay 1 ad[x]\n";
 
 const REPORT: &[u8] = b"pay 1 1.312500000 1.312500000\ntotal 1.312500000 1.312500000\n";
 
-const USAGE: &[u8] = b"usage: halo value T C, check T C, compile T C, explain T C, columns T NAME P/Q, sample N\n";
+const USAGE: &[u8] =
+    b"usage: halo value T C, check T C, compile T C, explain T C, columns T NAME P/Q, sample N\n";
 
 const VALUE: &[&str] = &["value", "T", "C"];
 
@@ -45,11 +46,7 @@ fn shelf_of(
 
 // A sink that takes ten bytes a time, and of which a write fails.
 fn sink_of(alloc: Global, failing: u64) -> Result<MemSink, AllocError> {
-    Ok(MemSink::new(
-        vec![in alloc; 0; 200]?,
-        vec![in alloc; failing]?,
-        10,
-    ))
+    Ok(MemSink::new(vec![in alloc; 0; 200]?, vec![in alloc; failing]?, 10))
 }
 
 #[test]
