@@ -11,7 +11,7 @@ use Rattle.halo_num.specs.Enclosure.{Encloses}
 use Rattle.halo_num.specs.Blend.{blend}
 use Rattle.halo_num.proofs.Rounded.{ordered}
 use Rattle.halo_num.proofs.Multiples.{least_of, greatest_of}
-use Rattle.halo_num.proofs.Ring.{mul_mono, chain}
+use Rattle.halo_sums.proofs.Integers.{mul_le_mul, le_trans}
 
 -- two naturals by which is greater
 pub by_order : {P : Type 0} (a b : ℕ) → ((c : ℕ) → a ≡ b + c → P) → ((c : ℕ) → b ≡ a + c → P) → P
@@ -104,8 +104,8 @@ mix_low (pos r) (pos pl) (pos ph) (pos a) (pos b) s x y d e f i0 i1 i2 i3 i4 j k
     in let kl : ph ≤ fine = omega (arith, ints)
     in let z : s ≤ d = chance_proper ph s d kl (omega (arith, ints))
     in let m = least_of (blend (pos pl) (pos a) (pos b)) (blend (pos ph) (pos a) (pos b))
-    in let g : pos (r * fine) ≤ℤ blend (pos pl) (pos a) (pos b) = chain (pos (r * fine)) (int_min (blend (pos pl) (pos a) (pos b)) (blend (pos ph) (pos a) (pos b))) (blend (pos pl) (pos a) (pos b)) h m.0
-    in let g2 : pos (r * fine) ≤ℤ blend (pos ph) (pos a) (pos b) = chain (pos (r * fine)) (int_min (blend (pos pl) (pos a) (pos b)) (blend (pos ph) (pos a) (pos b))) (blend (pos ph) (pos a) (pos b)) h m.1
+    in let g : pos (r * fine) ≤ℤ blend (pos pl) (pos a) (pos b) = le_trans (pos (r * fine)) (int_min (blend (pos pl) (pos a) (pos b)) (blend (pos ph) (pos a) (pos b))) (blend (pos pl) (pos a) (pos b)) h m.0
+    in let g2 : pos (r * fine) ≤ℤ blend (pos ph) (pos a) (pos b) = le_trans (pos (r * fine)) (int_min (blend (pos pl) (pos a) (pos b)) (blend (pos ph) (pos a) (pos b))) (blend (pos ph) (pos a) (pos b)) h m.1
     in let P : ℤ → Type 0 = λ t. pos (r * fine) ≤ℤ t
     in let o : pos (r * fine) ≤ℤ pos (pl * a + (fine - pl) * b) = subst P (blend_pos pl a b jl) g
     in let o2 : pos (r * fine) ≤ℤ pos (ph * a + (fine - ph) * b) = subst P (blend_pos ph a b kl) g2
@@ -124,8 +124,8 @@ mix_high (pos r) (pos pl) (pos ph) (pos a) (pos b) s x y d e f i0 i1 i2 i3 i4 j 
     in let kl : ph ≤ fine = omega (arith, ints)
     in let z : s ≤ d = chance_proper ph s d kl (omega (arith, ints))
     in let m = greatest_of (blend (pos pl) (pos a) (pos b)) (blend (pos ph) (pos a) (pos b))
-    in let g : blend (pos pl) (pos a) (pos b) ≤ℤ pos (r * fine) = chain (blend (pos pl) (pos a) (pos b)) (int_max (blend (pos pl) (pos a) (pos b)) (blend (pos ph) (pos a) (pos b))) (pos (r * fine)) m.0 h
-    in let g2 : blend (pos ph) (pos a) (pos b) ≤ℤ pos (r * fine) = chain (blend (pos ph) (pos a) (pos b)) (int_max (blend (pos pl) (pos a) (pos b)) (blend (pos ph) (pos a) (pos b))) (pos (r * fine)) m.1 h
+    in let g : blend (pos pl) (pos a) (pos b) ≤ℤ pos (r * fine) = le_trans (blend (pos pl) (pos a) (pos b)) (int_max (blend (pos pl) (pos a) (pos b)) (blend (pos ph) (pos a) (pos b))) (pos (r * fine)) m.0 h
+    in let g2 : blend (pos ph) (pos a) (pos b) ≤ℤ pos (r * fine) = le_trans (blend (pos ph) (pos a) (pos b)) (int_max (blend (pos pl) (pos a) (pos b)) (blend (pos ph) (pos a) (pos b))) (pos (r * fine)) m.1 h
     in let P : ℤ → Type 0 = λ t. t ≤ℤ pos (r * fine)
     in let o : pos (pl * a + (fine - pl) * b) ≤ℤ pos (r * fine) = subst P (blend_pos pl a b jl) g
     in let o2 : pos (ph * a + (fine - ph) * b) ≤ℤ pos (r * fine) = subst P (blend_pos ph a b kl) g2
@@ -140,11 +140,11 @@ mix_high r pl ph a (negsuc b) s x y d e f i0 i1 i2 i3 i4 j k h p q v w = absurd 
 -- a choice by a chance
 pub encloses_mix : (p a b r : Ends) (s x y d e f : ℕ) → IsWithin p (pos 0) (pos fine) → p.lo ≤ℤ p.hi → pos 0 ≤ℤ a.lo → a.lo ≤ℤ a.hi → pos 0 ≤ℤ b.lo → b.lo ≤ℤ b.hi → pos 0 ≤ℤ r.lo → pos 0 ≤ℤ r.hi → IsFloor r.lo (int_min (blend p.lo a.lo b.lo) (blend p.hi a.lo b.lo)) (pos fine) → IsCeiling r.hi (int_max (blend p.lo a.hi b.hi) (blend p.hi a.hi b.hi)) (pos fine) → Encloses p (pos s) d → Encloses a (pos x) e → Encloses b (pos y) f → Encloses r (pos (s * x * f + (d - s) * y * e)) (d * e * f)
 encloses_mix p a b r s x y d e f pw po al ao bl bo rl rh fl ce ep ea eb =
-    let ph : pos 0 ≤ℤ p.hi = chain (pos 0) p.lo p.hi pw.low po
-    in let pl : p.lo ≤ℤ pos fine = chain p.lo p.hi (pos fine) po pw.high
+    let ph : pos 0 ≤ℤ p.hi = le_trans (pos 0) p.lo p.hi pw.low po
+    in let pl : p.lo ≤ℤ pos fine = le_trans p.lo p.hi (pos fine) po pw.high
     in record {
       low = mix_low r.lo p.lo p.hi a.lo b.lo s x y d e f rl pw.low ph al bl pl pw.high fl.reached ep.low ep.high ea.low eb.low;
-      high = mix_high r.hi p.lo p.hi a.hi b.hi s x y d e f rh pw.low ph (chain (pos 0) a.lo a.hi al ao) (chain (pos 0) b.lo b.hi bl bo) pl pw.high ce.reached ep.low ep.high ea.high eb.high;
+      high = mix_high r.hi p.lo p.hi a.hi b.hi s x y d e f rh pw.low ph (le_trans (pos 0) a.lo a.hi al ao) (le_trans (pos 0) b.lo b.hi bl bo) pl pw.high ce.reached ep.low ep.high ea.high eb.high;
     }
 
 -- sums keep an order
@@ -156,8 +156,8 @@ pub blend_mono : (s x y v w : ℤ) → pos 0 ≤ℤ s → s ≤ℤ pos fine → 
 blend_mono s x y v w i j k l p q =
     let r : pos 0 ≤ℤ (pos fine -ℤ s) = omega (arith, ints)
     in let t = pos fine -ℤ s
-    in let m = mul_mono s x s v i k (omega (arith, ints)) p
-    in let n = mul_mono t y t w r l (omega (arith, ints)) q
+    in let m = mul_le_mul s x s v i k (omega (arith, ints)) p
+    in let n = mul_le_mul t y t w r l (omega (arith, ints)) q
     in sum_mono (s *ℤ x) (t *ℤ y) (s *ℤ v) (t *ℤ w) m n
 
 -- the least blend is at most the greatest
@@ -167,5 +167,5 @@ mix_ordered p a b r s pw po al ao bl bo f c =
     in let y = blend p.hi a.lo b.lo
     in let v = blend p.lo a.hi b.hi
     in let w = blend p.hi a.hi b.hi
-    in let m = blend_mono p.lo a.lo b.lo a.hi b.hi pw.low (chain p.lo p.hi (pos fine) po pw.high) al bl ao bo
-    in ordered r s (int_min x y) (int_max v w) fine (lit< tt) f c (chain (int_min x y) x (int_max v w) (least_of x y).0 (chain x v (int_max v w) m (greatest_of v w).0))
+    in let m = blend_mono p.lo a.lo b.lo a.hi b.hi pw.low (le_trans p.lo p.hi (pos fine) po pw.high) al bl ao bo
+    in ordered r s (int_min x y) (int_max v w) fine (lit< tt) f c (le_trans (int_min x y) x (int_max v w) (least_of x y).0 (le_trans x v (int_max v w) m (greatest_of v w).0))

@@ -5,7 +5,7 @@ use Rattle.std.specs.Int.{int_min, int_max}
 use Rattle.std.proofs.Math.Nat.{mul-le-mul_right}
 use Rattle.halo_num.specs.Ends.{Ends, fine, IsWithin}
 use Rattle.halo_num.specs.Blend.{blend, IsIn, IsLeastBlend, IsGreatestBlend}
-use Rattle.halo_num.proofs.Ring.{chain}
+use Rattle.halo_sums.proofs.Integers.{le_trans}
 use Rattle.halo_num.proofs.Multiples.{least_of, greatest_of}
 use Rattle.halo_num.proofs.Parts.{int_min_cases, int_max_cases}
 use Rattle.halo_num.proofs.Blends.{by_order, blend_pos, blend_mono}
@@ -49,8 +49,8 @@ blend_least (pos pl) (pos s) (pos ph) (pos x) (pos y) i l m j k n =
     in let is : s ≤ fine = omega (arith, ints)
     in let ih : ph ≤ fine = omega (arith, ints)
     in ⊎_elim
-    (λ (h : pl * x + (fine - pl) * y ≤ s * x + (fine - s) * y). chain (int_min a b) a z (least_of a b).0 (blend_order pl s x y il is h))
-    (λ (h : ph * x + (fine - ph) * y ≤ s * x + (fine - s) * y). chain (int_min a b) b z (least_of a b).1 (blend_order ph s x y ih is h))
+    (λ (h : pl * x + (fine - pl) * y ≤ s * x + (fine - s) * y). le_trans (int_min a b) a z (least_of a b).0 (blend_order pl s x y il is h))
+    (λ (h : ph * x + (fine - ph) * y ≤ s * x + (fine - s) * y). le_trans (int_min a b) b z (least_of a b).1 (blend_order ph s x y ih is h))
     (above_one pl (fine - pl) s (fine - s) ph (fine - ph) x y fine (omega arith) (omega arith) (omega arith) (omega (arith, ints)) (omega (arith, ints)))
 blend_least (negsuc pl) s ph x y i l m j k n = absurd (omega (arith, ints))
 blend_least (pos pl) (negsuc s) ph x y i l m j k n = absurd (omega (arith, ints))
@@ -68,8 +68,8 @@ blend_greatest (pos pl) (pos s) (pos ph) (pos x) (pos y) i l m j k n =
     in let is : s ≤ fine = omega (arith, ints)
     in let ih : ph ≤ fine = omega (arith, ints)
     in ⊎_elim
-    (λ (h : s * x + (fine - s) * y ≤ pl * x + (fine - pl) * y). chain z a (int_max a b) (blend_order s pl x y is il h) (greatest_of a b).0)
-    (λ (h : s * x + (fine - s) * y ≤ ph * x + (fine - ph) * y). chain z b (int_max a b) (blend_order s ph x y is ih h) (greatest_of a b).1)
+    (λ (h : s * x + (fine - s) * y ≤ pl * x + (fine - pl) * y). le_trans z a (int_max a b) (blend_order s pl x y is il h) (greatest_of a b).0)
+    (λ (h : s * x + (fine - s) * y ≤ ph * x + (fine - ph) * y). le_trans z b (int_max a b) (blend_order s ph x y is ih h) (greatest_of a b).1)
     (below_one pl (fine - pl) s (fine - s) ph (fine - ph) x y fine (omega arith) (omega arith) (omega arith) (omega (arith, ints)) (omega (arith, ints)))
 blend_greatest (negsuc pl) s ph x y i l m j k n = absurd (omega (arith, ints))
 blend_greatest (pos pl) (negsuc s) ph x y i l m j k n = absurd (omega (arith, ints))
@@ -90,9 +90,9 @@ least_at_ends p a b w po al ao bl bo =
           (λ (e : int_min u v ≡ v). record { s = p.hi; x = a.lo; y = b.lo; s_in = record { low = po; high = omega (arith, ints) }; x_in = a_in; y_in = b_in; same = sym e })
           (int_min_cases u v);
       least = λ s x y ps ax by.
-          chain (int_min u v) (blend s a.lo b.lo) (blend s x y)
+          le_trans (int_min u v) (blend s a.lo b.lo) (blend s x y)
           (blend_least p.lo s p.hi a.lo b.lo w.low ps.low ps.high w.high al bl)
-          (blend_mono s a.lo b.lo x y (chain (pos 0) p.lo s w.low ps.low) (chain s p.hi (pos fine) ps.high w.high) al bl ax.low by.low);
+          (blend_mono s a.lo b.lo x y (le_trans (pos 0) p.lo s w.low ps.low) (le_trans s p.hi (pos fine) ps.high w.high) al bl ax.low by.low);
     }
 
 -- the greatest blend is that of the values' upper ends, at one end of the chance
@@ -108,7 +108,7 @@ greatest_at_ends p a b w po al ao bl bo =
           (λ (e : int_max u v ≡ v). record { s = p.hi; x = a.hi; y = b.hi; s_in = record { low = po; high = omega (arith, ints) }; x_in = a_in; y_in = b_in; same = sym e })
           (int_max_cases u v);
       greatest = λ s x y ps ax by.
-          chain (blend s x y) (blend s a.hi b.hi) (int_max u v)
-          (blend_mono s x y a.hi b.hi (chain (pos 0) p.lo s w.low ps.low) (chain s p.hi (pos fine) ps.high w.high) (chain (pos 0) a.lo x al ax.low) (chain (pos 0) b.lo y bl by.low) ax.high by.high)
-          (blend_greatest p.lo s p.hi a.hi b.hi w.low ps.low ps.high w.high (chain (pos 0) a.lo a.hi al ao) (chain (pos 0) b.lo b.hi bl bo));
+          le_trans (blend s x y) (blend s a.hi b.hi) (int_max u v)
+          (blend_mono s x y a.hi b.hi (le_trans (pos 0) p.lo s w.low ps.low) (le_trans s p.hi (pos fine) ps.high w.high) (le_trans (pos 0) a.lo x al ax.low) (le_trans (pos 0) b.lo y bl by.low) ax.high by.high)
+          (blend_greatest p.lo s p.hi a.hi b.hi w.low ps.low ps.high w.high (le_trans (pos 0) a.lo a.hi al ao) (le_trans (pos 0) b.lo b.hi bl bo));
     }

@@ -6,13 +6,13 @@ use Rattle.halo_num.specs.Ends.{Ends, fine}
 use Rattle.halo_num.specs.Rounding.{IsFloor, IsCeiling}
 use Rattle.halo_num.specs.Enclosure.{Encloses}
 use Rattle.halo_num.proofs.Laws.{not_negative}
-use Rattle.halo_num.proofs.Ring.{mul_mono, cancel, cancel_lt}
+use Rattle.halo_sums.proofs.Integers.{mul_le_mul, le_of_mul_pos, lt_of_mul_lt}
 
 -- a quotient by more is at most a quotient by less
 pub ordered_quotient : (r s z w c d : ℤ) → pos 0 ≤ℤ r → pos 1 ≤ℤ c → c ≤ℤ d → z ≤ℤ w → (r *ℤ d) ≤ℤ z → w ≤ℤ (s *ℤ c) → r ≤ℤ s
 ordered_quotient r s z w (pos c) d x y o h p q =
-    let e = mul_mono r (pos c) r d x (omega (arith, ints)) (omega (arith, ints)) o
-    in cancel r s c (omega (arith, ints)) (omega (arith, ints))
+    let e = mul_le_mul r (pos c) r d x (omega (arith, ints)) (omega (arith, ints)) o
+    in le_of_mul_pos r s c (omega (arith, ints)) (omega (arith, ints))
 ordered_quotient r s z w (negsuc c) d x y o h p q = absurd (omega (arith, ints))
 
 -- the lower end of a quotient, over naturals
@@ -67,7 +67,7 @@ bounded_quotient_nat hi ah bl t u p k m =
     let e : ah * u ≤ t * u * u = mul-le-mul_right u m
     in let f : t * u * u ≤ t * u * bl = mul-le-mul_left (t * u) k
     in let z : hi * bl < (t * u + 1) * bl = omega arith
-    in let r : hi < t * u + 1 = cancel_lt hi (t * u + 1) bl z
+    in let r : hi < t * u + 1 = lt_of_mul_lt hi (t * u + 1) bl z
     in omega arith
 
 -- a quotient by at least one of at most t ones is at most t

@@ -7,7 +7,7 @@ use Rattle.std.specs.Int.{int_min, int_max}
 use Rattle.halo_num.specs.Ends.{Ends, fine, IsWithin, HasWidth}
 use Rattle.halo_num.specs.Rounding.{IsFloor, IsCeiling}
 use Rattle.halo_num.specs.Blend.{blend}
-use Rattle.halo_num.proofs.Ring.{chain}
+use Rattle.halo_sums.proofs.Integers.{le_trans}
 use Rattle.halo_num.proofs.Parts.{int_min_cases, int_max_cases}
 use Rattle.halo_num.proofs.Blends.{by_order, blend_pos}
 
@@ -62,7 +62,7 @@ width_mix p a b r k m pw aw bw po ao bo f c hp ha hb =
     let n = hp.near
     in let s2 : s ≤ℤ (t +ℤ pos k) = omega (arith, ints)
     in let t2 : t ≤ℤ (s +ℤ pos k) = omega (arith, ints)
-    in blend_near s t a.hi b.hi a.lo b.lo k m (chain (pos 0) p.lo s pw.low s0) (chain (pos 0) p.lo t pw.low t0) (chain (pos 0) a.lo a.hi aw.low ao) (chain (pos 0) b.lo b.hi bw.low bo) aw.low bw.low (chain s p.hi (pos fine) s1 pw.high) (chain t p.hi (pos fine) t1 pw.high) (chain a.lo a.hi (pos fine) ao aw.high) (chain b.lo b.hi (pos fine) bo bw.high) s2 t2 ha.near hb.near
+    in blend_near s t a.hi b.hi a.lo b.lo k m (le_trans (pos 0) p.lo s pw.low s0) (le_trans (pos 0) p.lo t pw.low t0) (le_trans (pos 0) a.lo a.hi aw.low ao) (le_trans (pos 0) b.lo b.hi bw.low bo) aw.low bw.low (le_trans s p.hi (pos fine) s1 pw.high) (le_trans t p.hi (pos fine) t1 pw.high) (le_trans a.lo a.hi (pos fine) ao aw.high) (le_trans b.lo b.hi (pos fine) bo bw.high) s2 t2 ha.near hb.near
     in let same : (z : ℤ) → z ≤ℤ z = λ z. omega (arith, ints)
     in let from : (s : ℤ) → p.lo ≤ℤ s → s ≤ℤ p.hi → blend s a.hi b.hi ≤ℤ (low +ℤ pos ((k + m) * fine)) = λ s s0 s1.
     let P : ℤ → Type 0 = λ z. blend s a.hi b.hi ≤ℤ (z +ℤ pos ((k + m) * fine))

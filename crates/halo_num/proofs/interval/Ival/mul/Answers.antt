@@ -4,7 +4,7 @@ use Rattle.halo_num.specs.Ends.{Ends, fine}
 use Rattle.halo_num.proofs.Products.{encloses_mul, bounded_mul}
 use Rattle.halo_num.proofs.Widths.{width_mul}
 use Rattle.halo_num.proofs.Rounded.{ordered}
-use Rattle.halo_num.proofs.Ring.{mul_mono}
+use Rattle.halo_sums.proofs.Integers.{mul_le_mul}
 use Rattle.halo_num.proofs.interval.Ival.mul.Goals as goal
 
 pub invariant_of-result : goal.invariant_of-result
@@ -13,7 +13,7 @@ invariant_of-result g c =
     in let ah = ap (λ (v : Ends). v.hi) c.self.view_is
     in let bl = ap (λ (v : Ends). v.lo) c.o.view_is
     in let bh = ap (λ (v : Ends). v.hi) c.o.view_is
-    in ordered _ _ (c.args.self.lo *ℤ c.args.o.lo) (c.args.self.hi *ℤ c.args.o.hi) fine (lit< tt) (search rules) (search rules) (mul_mono c.args.self.lo c.args.o.lo c.args.self.hi c.args.o.hi c.requires.self_from c.requires.o_from (omega (arith, ints)) (omega (arith, ints)))
+    in ordered _ _ (c.args.self.lo *ℤ c.args.o.lo) (c.args.self.hi *ℤ c.args.o.hi) fine (lit< tt) (search rules) (search rules) (mul_le_mul c.args.self.lo c.args.o.lo c.args.self.hi c.args.o.hi c.requires.self_from c.requires.o_from (omega (arith, ints)) (omega (arith, ints)))
 
 pub returns-clause-encloses : goal.returns-clause-encloses
 returns-clause-encloses g c = λ n m d e p q.
