@@ -1,5 +1,5 @@
 -- The laws of integers that the standard library lacks: `*ℤ` distributes, is associative, and keeps an order.
-use Rattle.std.proofs.Common.{◌≡◌, ℕ, ◌+◌, ◌*◌, ◌<◌, ◌≤◌, ℤ, pos, negsuc, ◌+ℤ◌, ◌*ℤ◌, ◌≤ℤ◌, neg_ℤ, arith, ap, refl, ⊎_elim}
+use Rattle.std.proofs.Common.{◌≡◌, ℕ, ◌+◌, ◌*◌, ◌<◌, ◌≤◌, ℤ, pos, negsuc, ◌+ℤ◌, ◌*ℤ◌, ◌≤ℤ◌, ◌-ℤ◌, neg_ℤ, arith, ap, sym, ◌∙◌, refl, ⊎_elim}
 use Rattle.std.proofs.lemmas.Bool.{cases_lt}
 use Rattle.std.proofs.lemmas.Int.{ints}
 use Rattle.std.proofs.lemmas.Nat.{mul-le}
@@ -42,11 +42,11 @@ mul_assoc a b c =
     let q3 = ap (λ (x : ℕ). down a * x) q.1 in
     same_in ((a *ℤ b) *ℤ c) (a *ℤ (b *ℤ c)) (omega (arith, ints))
 
--- an integer mul_le_pos two naturals
+-- an integer times two naturals
 pub mul-pos-pos : (z : ℤ) (d k : ℕ) → z *ℤ pos d *ℤ pos k ≡ z *ℤ pos (d * k)
 mul-pos-pos z d k = mul_assoc z (pos d) (pos k)
 
--- an order mul_le_pos a natural, and back
+-- an order times a natural, and back
 pub mul_le_pos : (a b : ℤ) (k : ℕ) → a ≤ℤ b → (a *ℤ pos k) ≤ℤ (b *ℤ pos k)
 mul_le_pos a b k h = let e : (up a + down b) * k ≤ (up b + down a) * k = mul-le-mul_right k (omega (arith, ints)) in omega (arith, ints)
 
@@ -72,3 +72,29 @@ mul_le_mul a (pos b) c (negsuc d) x y h k = absurd (omega (arith, ints))
 -- a factor that is not 0 cancels
 pub lt_of_mul_lt : (x y k : ℕ) → x * k < y * k → x < y
 lt_of_mul_lt x y k h = ⊎_elim (λ (l : x < y). l) (λ (l : y ≤ x). let m : y * k ≤ x * k = mul-le-mul_right k l in absurd (omega arith)) (cases_lt x y)
+
+-- products of any sign: on the left of a sum, with the factors changed, at a difference and a negation
+pub mul_comm : (a b : ℤ) → a *ℤ b ≡ b *ℤ a
+mul_comm a b = omega (arith, ints)
+
+pub mul_add : (a b c : ℤ) → a *ℤ (b +ℤ c) ≡ a *ℤ b +ℤ a *ℤ c
+mul_add a b c = mul_comm a (b +ℤ c) ∙ add_mul b c a ∙ ap (λ z. z +ℤ c *ℤ a) (mul_comm b a) ∙ ap (λ z. a *ℤ b +ℤ z) (mul_comm c a)
+
+pub mul_neg : (a b : ℤ) → a *ℤ neg_ℤ b ≡ neg_ℤ (a *ℤ b)
+mul_neg a b = mul_comm a (neg_ℤ b) ∙ neg_mul b a ∙ ap neg_ℤ (mul_comm b a)
+
+pub mul_sub : (a b c : ℤ) → a *ℤ (b -ℤ c) ≡ a *ℤ b -ℤ a *ℤ c
+mul_sub a b c = omega (arith, ints, mul_add a b (neg_ℤ c), mul_neg a c)
+
+pub sub_mul : (a b c : ℤ) → (a -ℤ b) *ℤ c ≡ a *ℤ c -ℤ b *ℤ c
+sub_mul a b c = omega (arith, ints, add_mul a (neg_ℤ b) c, neg_mul b c)
+
+pub mul_left_comm : (a b c : ℤ) → a *ℤ (b *ℤ c) ≡ b *ℤ (a *ℤ c)
+mul_left_comm a b c = sym (mul_assoc a b c) ∙ ap (λ z. z *ℤ c) (mul_comm a b) ∙ mul_assoc b a c
+
+-- the integer of a product and of a sum of naturals
+pub pos_mul : (m n : ℕ) → pos (m * n) ≡ pos m *ℤ pos n
+pos_mul m n = omega (arith, ints)
+
+pub pos_add : (m n : ℕ) → pos (m + n) ≡ pos m +ℤ pos n
+pos_add m n = omega (arith, ints)

@@ -1,0 +1,5 @@
+pub mod Sums
+pub mod Sets
+pub mod Masks
+pub mod Coefficients
+pub mod Laws
