@@ -20,9 +20,40 @@ pub struct Division {
 
 /// The product of `a` and `b`, divided by 10^18.
 ///
+/// Factors up to 1, as probabilities and discounts are, have a product that fits `u128`: it is divided
+/// at once, since every valuation makes most of its products of such factors.
+pub fn divided_product(a: u128, b: u128) -> Division
+    requires a_in { a ≤ 10 ^ 33 }
+    requires b_in { b ≤ 10 ^ 21 }
+    ensures whole { result.whole * fine + result.rest ≡ a * b }
+    ensures rest { result.rest < fine }
+    ensures bound { result.whole ≤ 2 * 10 ^ 36 }
+{
+    if a <= FINE_UNITS && b <= FINE_UNITS {
+        divided_by_fine(a * b)
+    } else {
+        divided_in_parts(a, b)
+    }
+}
+
+/// A number, divided by 10^18.
+fn divided_by_fine(units: u128) -> Division
+    ensures whole { result.whole * fine + result.rest ≡ units }
+    ensures rest { result.rest < fine }
+    ensures bound { result.whole ≤ units }
+{
+    let whole = units / FINE_UNITS;
+    Division {
+        whole,
+        rest: units - whole * FINE_UNITS,
+    }
+}
+
+/// The product of `a` and `b`, divided by 10^18.
+///
 /// Each factor is split by 10^18 into a high and a low part: what a high part contributes divides
 /// exactly, and only the product of the two low parts leaves a rest.
-pub fn divided_product(a: u128, b: u128) -> Division
+fn divided_in_parts(a: u128, b: u128) -> Division
     requires a_in { a ≤ 10 ^ 33 }
     requires b_in { b ≤ 10 ^ 21 }
     ensures whole { result.whole * fine + result.rest ≡ a * b }

@@ -1,5 +1,5 @@
 use Rattle.halo_num.proofs.WideProducts.{wide_product}
-use Rattle.halo_num.proofs.wide.divided_product.Goals as goal
+use Rattle.halo_num.proofs.wide.divided_in_parts.Goals as goal
 
 pub returns-clause-whole : goal.returns-clause-whole
 returns-clause-whole c = wide_product c.args.a c.args.b
