@@ -5,7 +5,7 @@ use Rattle.std.specs.Int.{int_min, int_max}
 use lib.IntN.{*ℤ-negsuc}
 use Rattle.halo_num.specs.Ends.{Ends, fine}
 use Rattle.halo_num.specs.Enclosure.{Encloses}
-use Rattle.halo_num.proofs.Laws.{low_falls, high_rises}
+use Rattle.halo_num.proofs.Enclosures.{low_falls, high_rises}
 use Rattle.halo_sums.proofs.Integers.{neg_mul, mul-pos-pos, mul_le_pos}
 
 -- the lesser of two is below both
@@ -20,7 +20,7 @@ greatest_of x y = (omega (arith, ints, clamps), omega (arith, ints, clamps))
 pub least_most : (r s x y : ℤ) → r ≡ int_min x y → s ≡ int_max x y → r ≤ℤ s
 least_most r s x y e f = rw (e, f) (omega (arith, ints, clamps))
 
--- an end mul_le_pos a natural
+-- an end times a natural
 scale_pos : (a n : ℤ) (d u k : ℕ) → (a *ℤ pos d) ≤ℤ (n *ℤ pos u) → (a *ℤ pos k *ℤ pos d) ≤ℤ (n *ℤ pos k *ℤ pos u)
 scale_pos a n d u k p =
     let s = mul_le_pos (a *ℤ pos d) (n *ℤ pos u) k p
@@ -32,13 +32,13 @@ scale_pos a n d u k p =
     in let j = mul_comm u k
     in rw (e, g, ← i, ← j, ← f, ← h) s
 
--- an end mul_le_pos a negative number is an end on the other side
+-- an end times a negative number is an end on the other side
 scale_neg : (a n : ℤ) (d u k : ℕ) → (a *ℤ pos d) ≤ℤ (n *ℤ pos u) → (n *ℤ negsuc k *ℤ pos u) ≤ℤ (a *ℤ negsuc k *ℤ pos d)
 scale_neg a n d u k p =
     let s = scale_pos a n d u (suc k) p
     in rw (*ℤ-negsuc n k, *ℤ-negsuc a k, neg_mul (n *ℤ pos (suc k)) (pos u), neg_mul (a *ℤ pos (suc k)) (pos d)) (omega (arith, ints, s))
 
--- the ends mul_le_pos a number, in order
+-- the ends times a number, in order
 scale_ends : (a : Ends) (k n : ℤ) (d : ℕ) → Encloses a n d → Encloses (record { lo = int_min (a.lo *ℤ k) (a.hi *ℤ k); hi = int_max (a.lo *ℤ k) (a.hi *ℤ k) }) (n *ℤ k) d
 scale_ends a (pos k) n d p =
     let x = a.lo *ℤ pos k

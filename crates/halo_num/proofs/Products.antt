@@ -6,7 +6,7 @@ use Rattle.std.proofs.Math.Nat.{mul-le-mul_right, le_of_mul-le-mul_right}
 use Rattle.halo_num.specs.Ends.{Ends, fine}
 use Rattle.halo_num.specs.Rounding.{IsFloor, IsCeiling}
 use Rattle.halo_num.specs.Enclosure.{Encloses}
-use Rattle.halo_num.proofs.Laws.{not_negative}
+use Rattle.halo_num.proofs.Enclosures.{not_negative}
 
 -- the lower end of a product, over naturals
 product_low : (r a b n m d e : ℕ) → r * 10 ^ 18 ≤ a * b → a * d ≤ n * 10 ^ 18 → b * e ≤ m * 10 ^ 18 → r * (d * e) ≤ n * m * 10 ^ 18

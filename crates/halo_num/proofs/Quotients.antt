@@ -5,7 +5,7 @@ use Rattle.std.proofs.Math.Nat.{mul-le-mul_left, mul-le-mul_right, le_of_mul-le-
 use Rattle.halo_num.specs.Ends.{Ends, fine}
 use Rattle.halo_num.specs.Rounding.{IsFloor, IsCeiling}
 use Rattle.halo_num.specs.Enclosure.{Encloses}
-use Rattle.halo_num.proofs.Laws.{not_negative}
+use Rattle.halo_num.proofs.Enclosures.{not_negative}
 use Rattle.halo_sums.proofs.Integers.{mul_le_mul, le_of_mul_pos, lt_of_mul_lt}
 
 -- a quotient by more is at most a quotient by less

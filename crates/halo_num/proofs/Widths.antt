@@ -17,7 +17,7 @@ width_add a b r v w e f p q = record { near = rw (e, f) (omega (arith, ints, p.n
 pub width_sub : (a b r : Ends) (v w : ℕ) → r.lo ≡ a.lo -ℤ b.hi → r.hi ≡ a.hi -ℤ b.lo → HasWidth a v → HasWidth b w → HasWidth r (v + w)
 width_sub a b r v w e f p q = record { near = rw (e, f) (omega (arith, ints, p.near, q.near)) }
 
--- the ends mul_le_pos a natural stay in order, and so near
+-- the ends times a natural stay in order, and so near
 scaled_near : (l h : ℤ) (w j m : ℕ) → l ≤ℤ h → h ≤ℤ (l +ℤ pos w) → j ≤ m → ((l *ℤ pos j) ≤ℤ (h *ℤ pos j)) × ((h *ℤ pos j) ≤ℤ (l *ℤ pos j +ℤ pos (w * m)))
 scaled_near l h w j m o p g =
     let s = mul_le_pos l h j o
@@ -25,7 +25,7 @@ scaled_near l h w j m o p g =
     in let u : w * j ≤ w * m = mul-le-mul_left w g
     in (s, omega (arith, ints))
 
--- a multiple is as many mul_le_pos wider
+-- a multiple is as many times wider
 pub width_scale : (a r : Ends) (k : ℤ) (w m : ℕ) → r.lo ≡ int_min (a.lo *ℤ k) (a.hi *ℤ k) → r.hi ≡ int_max (a.lo *ℤ k) (a.hi *ℤ k) → a.lo ≤ℤ a.hi → HasWidth a w → IsSized k m → HasWidth r (w * m)
 width_scale a r (pos j) w m e f o p g =
     let s = scaled_near a.lo a.hi w j m o p.near (omega (arith, ints, g.high))
@@ -43,7 +43,7 @@ width_nat lo hi al ah bl bh v w a b p q i j k l =
     in let r : v * bl ≤ v * (b * 10 ^ 18) = mul-le-mul_left v l
     in omega arith
 
--- a product is as wide as each factor mul_le_pos the other, and at most 1 more by the rounding
+-- a product is as wide as each factor times the other, and at most 1 more by the rounding
 pub width_mul : (lo hi al ah bl bh : ℤ) (v w a b : ℕ) → pos 0 ≤ℤ lo → pos 0 ≤ℤ hi → pos 0 ≤ℤ al → pos 0 ≤ℤ bl → al ≤ℤ ah → bl ≤ℤ bh → ah ≤ℤ pos (a * fine) → bh ≤ℤ pos (b * fine) → IsFloor lo (al *ℤ bl) (pos fine) → IsCeiling hi (ah *ℤ bh) (pos fine) → ah ≤ℤ (al +ℤ pos v) → bh ≤ℤ (bl +ℤ pos w) → hi ≤ℤ (lo +ℤ pos (v * b + w * a + 1))
 width_mul (pos lo) (pos hi) (pos al) (pos ah) (pos bl) (pos bh) v w a b i0 i1 i2 i3 i4 i5 i6 i7 f c p q =
     let k = width_nat lo hi al ah bl bh v w a b (omega (arith, ints, f.nearest)) (omega (arith, ints, c.nearest)) (omega (arith, ints)) (omega (arith, ints)) (omega (arith, ints)) (omega (arith, ints))
@@ -74,7 +74,7 @@ quotient_width_nat lo hi al ah bl bh v w t u z p q i j k l m =
     in let r : hi < lo + (v + t * w + 1) + 1 = lt_of_mul_lt hi (lo + (v + t * w + 1) + 1) (bl * bh) s
     in omega arith
 
--- a quotient by at least one is as wide as its numerator, and as its divisor mul_le_pos the ones in the numerator
+-- a quotient by at least one is as wide as its numerator, and as its divisor times the ones in the numerator
 pub width_quotient : (lo hi al ah bl bh : ℤ) (v w t : ℕ) → pos 0 ≤ℤ lo → pos 0 ≤ℤ hi → pos 0 ≤ℤ al → al ≤ℤ ah → pos fine ≤ℤ bl → bl ≤ℤ bh → ah ≤ℤ pos (t * fine) → IsFloor lo (al *ℤ pos fine) bh → IsCeiling hi (ah *ℤ pos fine) bl → ah ≤ℤ (al +ℤ pos v) → bh ≤ℤ (bl +ℤ pos w) → hi ≤ℤ (lo +ℤ pos (v + t * w + 1))
 width_quotient (pos lo) (pos hi) (pos al) (pos ah) (pos bl) (pos bh) v w t i0 i1 i2 i3 i4 i5 i6 f c p q =
     let k = quotient_width_nat lo hi al ah bl bh v w t fine (lit< tt) (omega (arith, ints, f.nearest)) (omega (arith, ints, c.nearest)) (omega (arith, ints)) (omega (arith, ints)) (omega (arith, ints)) (omega (arith, ints)) (omega (arith, ints))

@@ -2,6 +2,7 @@ ghost use Rattle.std.specs.Prelude.{◌≡◌, ℕ, ◌+◌, ◌-◌, ◌*◌, �
 ghost use Rattle.std.specs.Int.{int_min, int_max};
 ghost use Rattle.halo_num.specs.Ends.{fine, printed, printed_ceiling, IsWithin, IsSized, HasWidth};
 ghost use Rattle.halo_num.specs.Rounding.{IsFloor, IsCeiling};
+ghost use Rattle.halo_num.specs.Chance.{EnclosesChance};
 ghost use Rattle.halo_num.specs.Enclosure.{Encloses, EnclosesPrinted};
 ghost use Rattle.halo_num.specs.Blend.{blend, IsLeastBlend, IsGreatestBlend};
 
@@ -157,6 +158,8 @@ impl Ival {
             HasWidth result (v + w + 1) }
         ensures width { (v w a b : ℕ) → self.hi ≤ℤ pos (a * fine) → o.hi ≤ℤ pos (b * fine) → HasWidth self v →
             HasWidth o w → HasWidth result (v * b + w * a + 1) }
+        ensures chance { (n m d e v w : ℕ) → EnclosesChance n d v self → EnclosesChance m e w o →
+            EnclosesChance (n * m) (d * e) (v + w + 1) result }
         ensures cost { steps.new ≡ steps.old + 1 }
     {
         steps.tick();

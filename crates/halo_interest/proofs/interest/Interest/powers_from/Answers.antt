@@ -1,5 +1,6 @@
-use Rattle.std.proofs.Common.{subst, arith, ℕ, ◌+◌, ◌*◌, pos}
-use Rattle.halo_interest.specs.Powers.{product_from, IsPower}
+use Rattle.std.proofs.Common.{subst, arith, ℕ, ◌+◌, ◌*◌}
+use Rattle.halo_num.specs.Chance.{EnclosesChance}
+use Rattle.halo_interest.specs.Powers.{IsPower}
 use Rattle.halo_interest.specs.Rates.{IsInterest, discount_numerator, discount_denominator}
 use Rattle.halo_interest.proofs.Growth.{power_zero, first_powers, more_powers, power_more}
 use Rattle.halo_interest.proofs.InForce.{in_force_is}
@@ -24,10 +25,8 @@ loop-t-preserved g c =
     in let t = c.loop-t.t
     in let p = c.loop-t.invariant.power
     in let y = c.year.ensures
-    in let r = c.mul-power.ensures
-    in let e = r.encloses (pos (product_from n s t)) (pos (n (s + t))) (product_from d s t) (d (s + t)) p.encloses y.encloses
-    in let w = r.narrow (3 * t) 1 p.within.high y.within.high p.narrow y.narrow
-    in let next : IsPower n d s (t + 1) c.mul-power.result = power_more n d s t c.mul-power.result e w (r.within p.within.high y.within.high)
+    in let year : EnclosesChance (n (s + t)) (d (s + t)) 1 c.year.result = record { encloses = y.encloses; narrow = y.narrow; within = y.within }
+    in let next : IsPower n d s (t + 1) c.mul-power.result = power_more n d s t c.mul-power.result (c.mul-power.ensures.chance _ _ _ _ (3 * t) 1 p year)
     in record {
       powers = more_powers n d s t c.loop-t.values c.mul-power.result c.loop-t.invariant.powers (omega arith) next;
       power = next;

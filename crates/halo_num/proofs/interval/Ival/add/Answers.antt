@@ -1,7 +1,7 @@
 use Rattle.std.proofs.Common.{ap, rules, arith}
 use Rattle.std.proofs.lemmas.Int.{ints}
 use Rattle.halo_num.specs.Ends.{Ends}
-use Rattle.halo_num.proofs.Laws.{encloses_add}
+use Rattle.halo_num.proofs.Enclosures.{encloses_add}
 use Rattle.halo_num.proofs.Widths.{width_add}
 use Rattle.halo_num.proofs.interval.Ival.add.Goals as goal
 

@@ -1,4 +1,4 @@
-use Rattle.std.proofs.Common.{◌*ℤ◌, ap, rules, arith, lit<}
+use Rattle.std.proofs.Common.{pos, ◌*ℤ◌, ap, rules, arith, lit<}
 use Rattle.std.proofs.lemmas.Int.{ints}
 use Rattle.halo_num.specs.Ends.{Ends, fine}
 use Rattle.halo_num.proofs.Products.{encloses_mul, bounded_mul}
@@ -45,3 +45,11 @@ returns-clause-width g c = λ v w a b x y p q.
 pub returns-clause-narrow : goal.returns-clause-narrow
 returns-clause-narrow g c = λ v w x y p q.
     let k = returns-clause-width g c v w 1 1 x y p q in record { near = omega (arith, ints, k.near) }
+
+pub returns-clause-chance : goal.returns-clause-chance
+returns-clause-chance g c = λ n m d e v w p q.
+    record {
+      encloses = returns-clause-encloses g c (pos n) (pos m) d e p.encloses q.encloses;
+      narrow = returns-clause-narrow g c v w p.within.high q.within.high p.narrow q.narrow;
+      within = returns-clause-within g c p.within.high q.within.high;
+    }

@@ -1,7 +1,7 @@
 use Rattle.std.proofs.Common.{ap, rules, arith}
 use Rattle.std.proofs.lemmas.Int.{ints}
 use Rattle.halo_num.specs.Ends.{Ends}
-use Rattle.halo_num.proofs.Laws.{encloses_sub}
+use Rattle.halo_num.proofs.Enclosures.{encloses_sub}
 use Rattle.halo_num.proofs.Widths.{width_sub}
 use Rattle.halo_num.proofs.interval.Ival.sub.Goals as goal
 

@@ -1,0 +1,31 @@
+-- Products of chances, one factor more.
+use Rattle.std.proofs.Common.{◌≡◌, ℕ, ◌+◌, ◌*◌, ◌≤◌, List, [], ◌∷◌, ◌++◌, length, pos, arith, ap, ◌∙◌}
+use Rattle.std.proofs.lemmas.Int.{ints}
+use Rattle.std.proofs.lemmas.List.{length-append}
+use Rattle.halo_sums.specs.Sums.{product_over}
+use Rattle.halo_num.specs.Ends.{Ends, fine}
+use Rattle.halo_num.specs.Chance.{EnclosesChance, EnclosesProduct}
+
+-- the product over a list and one more
+pub product_over-push : (f : ℕ → ℕ) (xs : List ℕ) (x : ℕ) → product_over (xs ++ x ∷ []) f ≡ product_over xs f * f x
+product_over-push f [] x = omega arith
+product_over-push f (y ∷ xs) x = ap (λ (k : ℕ). f y * k) (product_over-push f xs x) ∙ regroup (f y) (product_over xs f) (f x)
+  where
+    regroup : (a b c : ℕ) → a * (b * c) ≡ a * b * c
+    regroup a b c = omega arith
+
+pub no_chances : (n d : ℕ → ℕ) (w : ℕ) → EnclosesProduct n d w [] (record { lo = pos fine; hi = pos fine })
+no_chances n d w = record {
+  encloses = record { low = omega (arith, ints); high = omega (arith, ints) };
+  narrow = record { near = omega (arith, ints) };
+  within = record { low = omega (arith, ints); high = omega (arith, ints) };
+}
+
+pub one_chance_more : (n d : ℕ → ℕ) (w : ℕ) (xs : List ℕ) (x : ℕ) (i : Ends) → EnclosesChance (product_over xs n * n x) (product_over xs d * d x) (length xs * (w + 1) + w + 1) i → EnclosesProduct n d w (xs ++ x ∷ []) i
+one_chance_more n d w xs x i c =
+    let more : length (xs ++ x ∷ []) * (w + 1) ≡ length xs * (w + 1) + w + 1 = omega (arith, ap (λ (k : ℕ). k * (w + 1)) (length-append xs (x ∷ []))) in
+    rw (product_over-push n xs x, product_over-push d xs x, more) c
+
+-- what is enclosed within a width is so within a greater one
+pub chance_wider : (n d v w : ℕ) (i : Ends) → v ≤ w → EnclosesChance n d v i → EnclosesChance n d w i
+chance_wider n d v w i h c = record { encloses = c.encloses; narrow = record { near = let k = c.narrow.near in omega (arith, ints) }; within = c.within }
