@@ -5,7 +5,7 @@ use Rattle.std.proofs.lemmas.Int.{ints}
 use Rattle.halo_sums.specs.Sums.{indicator}
 use Rattle.halo_sums.specs.Sets.{size_of}
 use Rattle.halo_sums.specs.Coefficients.{coefficient}
-use Rattle.halo_sums.proofs.Coefficients.{coefficient-with, coefficient-without}
+use Rattle.halo_sums.proofs.Coefficients.{coefficient-empty, coefficient-with, coefficient-without}
 
 -- the least and the greatest coefficient of a set of so many
 abbrev least : ℕ → ℤ
@@ -28,7 +28,7 @@ difference-between zero a b h k = (omega (arith, ints, h.0, h.1, k.0, k.1), omeg
 difference-between (suc size) a b h k = (omega (arith, ints, pow-suc 2 size, h.0, h.1, k.0, k.1), omega (arith, ints, pow-suc 2 size, h.0, h.1, k.0, k.1))
 
 coefficient-between : (holds : List Bool → Bool) (s : List Bool) → IsBetween (size_of s) (coefficient (λ u. indicator (holds u)) s)
-coefficient-between holds [] = let h = indicator-between (holds []) in (omega (arith, ints, h.0), omega (arith, ints, h.1))
+coefficient-between holds [] = rw (coefficient-empty (λ u. indicator (holds u))) (indicator-between (holds []))
 coefficient-between holds (false ∷ s) = rw (coefficient-without (λ u. indicator (holds u)) s) (coefficient-between (λ u. holds (false ∷ u)) s)
 coefficient-between holds (true ∷ s) = rw (coefficient-with (λ u. indicator (holds u)) s)
     (difference-between (size_of s) _ _ (coefficient-between (λ u. holds (true ∷ u)) s) (coefficient-between (λ u. holds (false ∷ u)) s))

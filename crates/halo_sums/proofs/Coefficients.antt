@@ -39,11 +39,17 @@ turned k (true ∷ s) f = omega (
     with : (k : ℕ) → int_sum_over (subsets s) (λ u. alternating (k + suc (size_of s) - suc (size_of u)) (f (true ∷ u))) ≡ int_sum_over (subsets s) (λ u. alternating (k + size_of s - size_of u) (f (true ∷ u)))
     with k = signs-ext s (λ u. f (true ∷ u)) (λ u. k + suc (size_of s) - suc (size_of u)) (λ u. k + size_of s - size_of u) (λ u. omega arith)
 
+pub coefficient-empty : (f : List Bool → ℤ) → coefficient f [] ≡ f []
+unfolding coefficient
+coefficient-empty f = omega (arith, ints)
+
 pub coefficient-without : (f : List Bool → ℤ) (s : List Bool) → coefficient f (false ∷ s) ≡ coefficient (λ u. f (false ∷ u)) s
+unfolding coefficient
 coefficient-without f s = int_sum_over-subsets_without s (λ u. alternating (size_of s - size_of u) (f u))
 
 -- the derivative in 0: with 0 less without it
 pub coefficient-with : (f : List Bool → ℤ) (s : List Bool) → coefficient f (true ∷ s) ≡ coefficient (λ u. f (true ∷ u)) s -ℤ coefficient (λ u. f (false ∷ u)) s
+unfolding coefficient
 coefficient-with f s = omega (arith, ints, int_sum_over-subsets_with s (λ u. alternating (suc (size_of s) - size_of u) (f u)), first, second, turned 0 s (λ u. f (false ∷ u)), third)
   where
     first : int_sum_over (subsets s) (λ u. alternating (suc (size_of s) - size_of u) (f (false ∷ u))) ≡ int_sum_over (subsets s) (λ u. alternating (1 + size_of s - size_of u) (f (false ∷ u)))
@@ -57,7 +63,7 @@ coefficient-with f s = omega (arith, ints, int_sum_over-subsets_with s (λ u. al
 
 -- the coefficients over the subsets of u add up to f there
 pub coefficients-add : (f : List Bool → ℤ) (u : List Bool) → int_sum_over (subsets u) (coefficient f) ≡ f u
-coefficients-add f [] = omega (arith, ints)
+coefficients-add f [] = omega (arith, ints, coefficient-empty f)
 coefficients-add f (false ∷ u) = int_sum_over-subsets_without u (coefficient f)
     ∙ int_sum_over-ext (subsets u) _ _ (coefficient-without f)
     ∙ coefficients-add (λ v. f (false ∷ v)) u
@@ -76,12 +82,13 @@ alternating-sub zero y z = refl
 alternating-sub (suc n) y z = omega (arith, ints, alternating-sub n y z)
 
 coefficient-sub : (f g : List Bool → ℤ) (s : List Bool) → coefficient (λ u. f u -ℤ g u) s ≡ coefficient f s -ℤ coefficient g s
+unfolding coefficient
 coefficient-sub f g s = int_sum_over-ext (subsets s) _ _ (λ u. alternating-sub (size_of s - size_of u) (f u) (g u))
     ∙ int_sum_over-sub (subsets s) (λ u. alternating (size_of s - size_of u) (f u)) (λ u. alternating (size_of s - size_of u) (g u))
 
 -- and no other numbers add up to f on all sets
 pub coefficients-unique : (f c : List Bool → ℤ) → ((u : List Bool) → int_sum_over (subsets u) c ≡ f u) → (s : List Bool) → c s ≡ coefficient f s
-coefficients-unique f c h [] = omega (arith, ints, h [])
+coefficients-unique f c h [] = omega (arith, ints, h [], coefficient-empty f)
 coefficients-unique f c h (false ∷ s) = coefficients-unique (λ u. f (false ∷ u)) (λ u. c (false ∷ u)) (λ u. sym (int_sum_over-subsets_without u c) ∙ h (false ∷ u)) s
     ∙ sym (coefficient-without f s)
 coefficients-unique f c h (true ∷ s) = coefficients-unique (λ u. f (true ∷ u) -ℤ f (false ∷ u)) (λ u. c (true ∷ u)) (λ u. omega (arith, ints, int_sum_over-subsets_with u c, int_sum_over-subsets_without u c, h (true ∷ u), h (false ∷ u))) s
