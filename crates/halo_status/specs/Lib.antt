@@ -1,0 +1,12 @@
+pub mod Bounds
+pub mod Exists
+pub mod Laws
+pub mod Mask
+pub mod Naming
+pub mod Nodes
+pub mod Pay
+pub mod StatusTree
+pub mod Tree
+pub mod ValidPay
+pub mod View
+pub mod formers
