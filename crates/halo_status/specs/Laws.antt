@@ -2,7 +2,7 @@
 use Rattle.std.specs.Prelude.{◌≡◌, ℕ, ◌≤◌, Bool, false}
 use Rattle.halo_status.specs.Tree.{Tree}
 use Rattle.halo_status.specs.Exists.{exists, IsSubset, empty_set}
-use Rattle.halo_status.specs.Nodes.{IsLasting, HasPositiveRanks}
+use Rattle.halo_status.specs.Nodes.{HasPositiveRanks, HasShortLists, IsLasting}
 use Rattle.halo_status.specs.View.{is_on}
 use Rattle.halo_status.specs.declared.view.View.{View}
 
@@ -18,6 +18,6 @@ LastingStaysFallen = (alive still_alive : ℕ → Bool) (view : View) (t later :
     → IsSubset still_alive alive → t ≤ later
     → exists alive (is_on view t) s ≡ false → exists still_alive (is_on view later) s ≡ false
 
--- a status that asks for at least one member wherever it asks for a number does not exist with no life there and no term on
+-- a status whose ranks are at least 1 does not exist with no life there and no term on
 abbrev pub NobodyThere : Type 0
-NobodyThere = (s : Tree) → HasPositiveRanks s → exists empty_set empty_set s ≡ false
+NobodyThere = (s : Tree) → HasShortLists s → HasPositiveRanks s → exists empty_set empty_set s ≡ false

@@ -1,6 +1,7 @@
 -- The nodes of a status: how many there are, and what holds at each of them.
 use Rattle.std.specs.Prelude.{ℕ, ◌+◌, ◌≤◌, ⊤}
-use Rattle.halo_status.specs.Tree.{Tree, Trees, life, term, joint, last, at_least, exactly, after, none, more}
+use Rattle.halo_status.specs.Bounds.{IsShort}
+use Rattle.halo_status.specs.Tree.{Tree, Trees, life, term, joint, last, at_least, exactly, after, none, more, member_count}
 
 -- how many lives, terms and compositions a status is written with
 abbrev mutual
@@ -41,6 +42,18 @@ NeverReturns _ = ⊤
 -- a lasting status: once it has failed, it has failed for good, since lives only die and terms only end
 abbrev pub IsLasting : Tree → Type 0
 IsLasting s = AtEachNode NeverReturns s
+
+-- the members of a list are 1 to 16
+abbrev pub HasShortList : Tree → Type 0
+HasShortList (joint ms) = IsShort (member_count ms)
+HasShortList (last ms) = IsShort (member_count ms)
+HasShortList (at_least r ms) = IsShort (member_count ms)
+HasShortList (exactly r ms) = IsShort (member_count ms)
+HasShortList _ = ⊤
+
+-- each list of a status is such, as every status in memory has them
+abbrev pub HasShortLists : Tree → Type 0
+HasShortLists s = AtEachNode HasShortList s
 
 -- the number asked of the members is at least 1
 abbrev pub AsksForSome : Tree → Type 0

@@ -1,8 +1,8 @@
 -- Which pays are valid: those that a contract may have.
 use Rattle.std.specs.Prelude.{◌≡◌, ◌≢◌, ℕ, ◌≤◌, ◌<◌, ◌^◌, ⊤, IfSome, IsTrue, Some}
-use Rattle.halo_status.specs.Tree.{Tree, Trees, term, joint, last, at_least, exactly, member_count, member_at}
+use Rattle.halo_status.specs.Tree.{Tree, Trees, term, joint, at_least, exactly, member_count, member_at}
 use Rattle.halo_status.specs.Naming.{names_life, names_term}
-use Rattle.halo_status.specs.Nodes.{nodes, AtEachNode, IsLasting}
+use Rattle.halo_status.specs.Nodes.{nodes, AtEachNode, HasShortLists, IsLasting}
 use Rattle.halo_status.specs.Pay.{PlainPay}
 use Rattle.halo_status.specs.declared.pay.Kind.TheVariants.{Insurance}
 use Rattle.halo_status.specs.declared.pay.Vary.{Vary}
@@ -17,14 +17,6 @@ IsLength n = (1 ≤ n) × (n ≤ 200)
 abbrev pub HasLength : Tree → Type 0
 HasLength (term n) = IsLength n
 HasLength _ = ⊤
-
--- a list has at most 16 members
-abbrev pub HasFewMembers : Tree → Type 0
-HasFewMembers (joint ms) = member_count ms ≤ 16
-HasFewMembers (last ms) = member_count ms ≤ 16
-HasFewMembers (at_least r ms) = member_count ms ≤ 16
-HasFewMembers (exactly r ms) = member_count ms ≤ 16
-HasFewMembers _ = ⊤
 
 -- a rank among so many members
 abbrev pub IsRank : ℕ → ℕ → Type 0
@@ -68,7 +60,7 @@ pub record IsValidPay (pay : PlainPay) : Type 0 where
   pub defer_in : pay.defer ≤ 200
   pub vary : HasValidVary pay.vary
   pub lengths : AtEachNode HasLength pay.body
-  pub members : AtEachNode HasFewMembers pay.body
+  pub lists : HasShortLists pay.body
   pub few_nodes : nodes pay.body ≤ 64
   pub ranks : AtEachNode HasRank pay.body
   pub lasting : pay.kind ≡ Insurance → IsLasting pay.body

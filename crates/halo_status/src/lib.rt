@@ -5,6 +5,7 @@
 //! annuity on a status pays. Lives are numbered from 0, times and terms count whole years.
 #![tactic(auto)]
 
+pub mod laws;
 mod memory;
 mod pay;
 mod short_list;
