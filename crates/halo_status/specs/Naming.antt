@@ -1,5 +1,5 @@
 -- The lives and the terms that a status names.
-use Rattle.std.specs.Prelude.{ℕ, Bool, false, ◌||◌, nat_eq}
+use Rattle.std.specs.Prelude.{ℕ, ◌<◌, IsTrue, Bool, false, ◌||◌, nat_eq}
 use Rattle.halo_status.specs.Tree.{Tree, Trees, life, term, joint, last, at_least, exactly, after, none, more}
 
 -- whether life i stands somewhere in a status
@@ -16,6 +16,13 @@ abbrev mutual
   pub any_names_life : ℕ → Trees → Bool
   any_names_life i none = false
   any_names_life i (more s ms) = names_life i s || any_names_life i ms
+
+-- each life that stands there has a number below some bound
+abbrev pub NamesLivesBelow : ℕ → Tree → Type 0
+NamesLivesBelow bound s = (i : ℕ) → IsTrue (names_life i s) → i < bound
+
+abbrev pub AnyNamesLivesBelow : ℕ → Trees → Type 0
+AnyNamesLivesBelow bound ms = (i : ℕ) → IsTrue (any_names_life i ms) → i < bound
 
 -- whether a term of n years stands somewhere in a status
 abbrev mutual

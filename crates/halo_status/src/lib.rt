@@ -6,6 +6,7 @@
 #![tactic(auto)]
 
 pub mod laws;
+mod mask;
 mod memory;
 mod pay;
 mod short_list;

@@ -1,4 +1,5 @@
 ghost use Rattle.std.specs.Prelude.{◌≡◌, [], ◌∷◌, ◌++◌, ◌<◌, ◌≤◌, length, slice_get, Some, IfOk, OnOk, OnErr};
+ghost use Rattle.halo_status.specs.Bounds.{IsShort};
 
 use crate::Memory;
 use std::alloc::Global;
@@ -47,7 +48,8 @@ impl<T> ShortList<T> {
 
     // The items in their order.
     pub(crate) fn as_slice(&self) -> &[T]
-        ensures { result.now ≡ self.now }
+        ensures items { result.now ≡ self.now }
+        ensures short { IsShort (length self.now) }
     {
         self.items.as_slice()
     }
