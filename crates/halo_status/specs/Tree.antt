@@ -1,17 +1,22 @@
 -- Statuses as plain trees: what a contract's symbol writes in its brackets, without memory or numbers of fixed width.
 use Rattle.std.specs.Prelude.{ℕ, zero, suc, ◌+◌, Option, Some, None}
 
--- a status of the lives and terms of a contract: the life of number i; the first n years; all of its members together;
--- the last survivor of its members; at least r of them; exactly r of them; and t after s has failed, as a reversionary
--- annuity is paid
+-- a status of the lives and terms of a contract
 mutual
   pub data Tree : Type 0 where
+    -- the life of a number, a status (x)
     life : ℕ → Tree
+    -- so many years from the start of the contract
     term : ℕ → Tree
+    -- all of its members, a joint-life status
     joint : Trees → Tree
+    -- at least one of its members, a last-survivor status
     last : Trees → Tree
+    -- at least so many of its members, the r-survivor status r / (x y z)
     at_least : ℕ → Trees → Tree
+    -- exactly so many of its members, the deferred survivor status [r] / (x y z)
     exactly : ℕ → Trees → Tree
+    -- the second after the first has failed, as a reversionary annuity is paid
     after : Tree → Tree → Tree
 
   -- the members of a status, in their order

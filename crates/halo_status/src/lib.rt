@@ -11,10 +11,12 @@ mod memory;
 mod pay;
 mod short_list;
 mod status;
+#[cfg(test)]
+mod tests;
 mod view;
 
 pub use memory::Memory;
 pub use pay::{Kind, Mark, Pay, Vary};
-pub use short_list::ShortList;
+pub use short_list::{MOST_ITEMS, ShortList};
 pub use status::{Members, Status};
 pub use view::View;

@@ -72,6 +72,7 @@ impl<T: Drop> ShortList<T> {
         ensures added { OnOk result (self.new ≡ self.old ++ item ∷ []) }
         ensures unchanged { OnErr result (self.new ≡ self.old) }
     {
-        self.items.push(item).map_err(|_| Memory)
+        self.items.push(item).map_err(|_| Memory)?;
+        Ok(())
     }
 }
