@@ -71,10 +71,10 @@ below : (m n k : ℕ) → m ≤ n → nat_le n k ≡ true → nat_le m k ≡ tru
 below m n k h e = grind (arith, nat_tests)
 
 -- a term that is on later is on before
-is_on-later : (view : View) (t later : ℕ) → t ≤ later → IsSubset (is_on view later) (is_on view t)
-is_on-later Due t later h n e = below (suc t) (suc later) n (omega arith) e
-is_on-later Immediate t later h n e = below t later n h e
+is_on_later : (view : View) (t later : ℕ) → t ≤ later → IsSubset (is_on view later) (is_on view t)
+is_on_later Due t later h n e = below (suc t) (suc later) n (omega arith) e
+is_on_later Immediate t later h n e = below t later n h e
 
 pub stays_fallen : LastingStaysFallen
 stays_fallen alive still_alive view t later s lasting lives h e =
-    falls_once alive still_alive (is_on view t) (is_on view later) s lasting lives (is_on-later view t later h) e
+    falls_once alive still_alive (is_on view t) (is_on view later) s lasting lives (is_on_later view t later h) e

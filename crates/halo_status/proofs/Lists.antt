@@ -17,10 +17,10 @@ HasMembers now ms = (now ≡ Joint ms) ⊎ (now ≡ Last ms) ⊎ ((r : ℕ) × (
 -- what holds of each kind of list holds of it
 at_list : (P : Tree → Type 0) (now : Status) (ms : List Status) → P (joint (trees_in ms)) → P (last (trees_in ms)) → ((r : ℕ) → P (at_least r (trees_in ms))) → ((r : ℕ) → P (exactly r (trees_in ms)))
     → HasMembers now ms → P (tree_of now)
-at_list P now ms j l a e (inl h) = rw (h, tree_of-Joint ms) j
-at_list P now ms j l a e (inr (inl h)) = rw (h, tree_of-Last ms) l
-at_list P now ms j l a e (inr (inr (inl h))) = rw (h.1, tree_of-AtLeast h.0 ms) (a h.0)
-at_list P now ms j l a e (inr (inr (inr h))) = rw (h.1, tree_of-Exactly h.0 ms) (e h.0)
+at_list P now ms at_joint at_last at_least_of at_exactly (inl h) = rw (h, tree_of-Joint ms) at_joint
+at_list P now ms at_joint at_last at_least_of at_exactly (inr (inl h)) = rw (h, tree_of-Last ms) at_last
+at_list P now ms at_joint at_last at_least_of at_exactly (inr (inr (inl h))) = rw (h.1, tree_of-AtLeast h.0 ms) (at_least_of h.0)
+at_list P now ms at_joint at_last at_least_of at_exactly (inr (inr (inr h))) = rw (h.1, tree_of-Exactly h.0 ms) (at_exactly h.0)
 
 pub nodes-list : (now : Status) (ms : List Status) → HasMembers now ms → nodes (tree_of now) ≡ 1 + nodes_in (trees_in ms)
 nodes-list now ms = at_list (λ s. nodes s ≡ 1 + nodes_in (trees_in ms)) now ms refl refl (λ r. refl) (λ r. refl)

@@ -17,22 +17,23 @@ names_life-After : (i : ℕ) (now : Status) (s t : Box Status Global) → now �
     → names_life i (tree_of now) ≡ (names_life i (tree_of s.value) || names_life i (tree_of t.value))
 names_life-After i now s t h = rw (h, tree_of-After s t)
 
-or-left : (a b : Bool) → a ≡ true → (a || b) ≡ true
-or-left a b h = rw h
+or_left : (a b : Bool) → a ≡ true → (a || b) ≡ true
+or_left a b h = rw h
 
-or-right : (a b : Bool) → b ≡ true → (a || b) ≡ true
-or-right true b h = refl
-or-right false b h = h
+or_right : (a b : Bool) → b ≡ true → (a || b) ≡ true
+or_right true b h = refl
+or_right false b h = h
 
+-- a bound on the numbers of the lives that a status names is one for its parts
 module _ (bound : ℕ) (now : Status) where
-  pub below-first : (s t : Box Status Global) → now ≡ After s t → NamesLivesBelow bound (tree_of now) → NamesLivesBelow bound (tree_of s.value)
-  below-first s t h below i named = below i (names_life-After i now s t h ∙ or-left _ _ named)
+  pub names_below_first : (s t : Box Status Global) → now ≡ After s t → NamesLivesBelow bound (tree_of now) → NamesLivesBelow bound (tree_of s.value)
+  names_below_first s t h below i named = below i (names_life-After i now s t h ∙ or_left _ _ named)
 
-  pub below-second : (s t : Box Status Global) → now ≡ After s t → NamesLivesBelow bound (tree_of now) → NamesLivesBelow bound (tree_of t.value)
-  below-second s t h below i named = below i (names_life-After i now s t h ∙ or-right _ _ named)
+  pub names_below_second : (s t : Box Status Global) → now ≡ After s t → NamesLivesBelow bound (tree_of now) → NamesLivesBelow bound (tree_of t.value)
+  names_below_second s t h below i named = below i (names_life-After i now s t h ∙ or_right _ _ named)
 
-  pub below-members : (ms : List Status) → HasMembers now ms → NamesLivesBelow bound (tree_of now) → AnyNamesLivesBelow bound (trees_in ms)
-  below-members ms h below i named = below i (names_life-list i now ms h ∙ named)
+  pub names_below_members : (ms : List Status) → HasMembers now ms → NamesLivesBelow bound (tree_of now) → AnyNamesLivesBelow bound (trees_in ms)
+  names_below_members ms h below i named = below i (names_life-list i now ms h ∙ named)
 
 -- a mask has the lives of both where it is made of theirs
 pub both_lives : (now : Status) (s t : Box Status Global) (first second : ℕ) → now ≡ After s t
@@ -46,9 +47,11 @@ module _ (ss : List Status) (k : ℕ) (s : Status) (lives : ℕ) (here : k < len
   split : (i : ℕ) → (has_bit lives i || (names_life i (tree_of s) || any_names_life i (trees_in (drop (k + 1) ss)))) ≡ any_names_life i (trees_in ss)
   split i = rw (left_at ss k s here is) at found i
 
-  pub below-member : (bound : ℕ) → AnyNamesLivesBelow bound (trees_in ss) → NamesLivesBelow bound (tree_of s)
-  below-member bound below i named = below i (sym (split i) ∙ or-right _ _ (or-left _ _ named))
+  -- and for the member at hand
+  pub names_below_member : (bound : ℕ) → AnyNamesLivesBelow bound (trees_in ss) → NamesLivesBelow bound (tree_of s)
+  names_below_member bound below i named = below i (sym (split i) ∙ or_right _ _ (or_left _ _ named))
 
+  -- with the lives of that member found as well, those behind it are left
   pub more_lives : (more : ℕ) → ((i : ℕ) → has_bit more i ≡ names_life i (tree_of s))
       → (i : ℕ) → (has_bit (bit_or lives more) i || any_names_life i (trees_in (drop (k + 1) ss))) ≡ any_names_life i (trees_in ss)
   more_lives more lives_of_s i = rw (has_bit-or lives more i, lives_of_s i, or_assoc) (split i)

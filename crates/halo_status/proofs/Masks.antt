@@ -28,7 +28,7 @@ pub has_bit-or : (a b i : ℕ) → has_bit (bit_or a b) i ≡ (has_bit a i || ha
 has_bit-or a b i = rw (bit_at_or a b i) (greater_bit _ _ (bit_at-lt a i) (bit_at-lt b i))
 
 -- the mask of one number below 16
-pub has_bit-shifted : (i j : ℕ) → i < 16 → has_bit (1 * 2 ^ i % 65536) j ≡ nat_eq j i
-has_bit-shifted i j h =
+pub has_bit-shl : (i j : ℕ) → i < 16 → has_bit (1 * 2 ^ i % 65536) j ≡ nat_eq j i
+has_bit-shl i j h =
     let small : 2 ^ i < 65536 = pow-lt h in
     let whole : 1 * 2 ^ i % 65536 ≡ 2 ^ i = omega arith in rw whole (has_bit-pow i j)

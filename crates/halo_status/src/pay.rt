@@ -15,7 +15,7 @@ pub enum Kind {
 /// How a payment grows or falls with the years passed since the deferral.
 #[derive(Clone, Copy, Debug, PartialEq, Eq)]
 pub enum Vary {
-    /// The amount.
+    /// The amount each time.
     Level,
     /// The amount times the years passed plus 1.
     Increasing,
@@ -35,7 +35,7 @@ pub struct Mark {
 /// A pay: an amount, and when it is paid.
 #[derive(Drop)]
 pub struct Pay {
-    /// The amount.
+    /// The amount, in whole units of money.
     pub amount: u64,
     /// How the payments vary.
     pub vary: Vary,

@@ -61,7 +61,7 @@ impl Status {
         }
     }
 
-    /// The set of the lives that it names, life i as bit i.
+    /// The set of the lives that it names, life i as bit i. Their numbers have to be below 16.
     #[cycle(naming_lives)]
     #[tactic(auto, using(crate::proofs::Shapes::shapes))]
     pub fn lives(&self) -> u16
@@ -96,7 +96,8 @@ impl Status {
         }
     }
 
-    /// How many nodes its tree has.
+    /// How many nodes its tree has, at most 2^32 - 1. It tells as well that each list in it has 1 to
+    /// 16 members.
     #[cycle(counting)]
     #[tactic(auto, using(crate::proofs::Shapes::shapes))]
     pub fn nodes(&self) -> u32
