@@ -33,7 +33,7 @@ pub struct Mark {
 }
 
 /// A pay: an amount, and when it is paid.
-#[derive(Drop)]
+#[derive(Debug, Drop)]
 pub struct Pay {
     /// The amount, in whole units of money.
     pub amount: u64,

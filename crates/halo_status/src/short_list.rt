@@ -9,7 +9,7 @@ use std::marker::Model;
 pub const MOST_ITEMS: usize = 16;
 
 /// A list of 1 to 16 items, seen as that list.
-#[derive(Drop)]
+#[derive(Debug, Drop)]
 pub struct ShortList<T> {
     items: Vec<T>,
 }

@@ -16,7 +16,7 @@ pub type Members = ShortList<Status>;
 ///
 /// A clause sees it as its tree. The members of a list are told apart by their places, so a life
 /// that is named twice is one life that counts in both places.
-#[derive(Drop)]
+#[derive(Debug, Drop)]
 pub enum Status {
     /// Exists while the life of this number is there.
     Life(u8),
