@@ -1,4 +1,4 @@
--- How many members exist, and what the count says of all, of some, and of how many.
+-- How many members exist, and what that says of all of them and of at least one.
 use Rattle.std.proofs.Common.{◌≡◌, ℕ, suc, ◌+◌, ◌<◌, ◌≤◌, List, [], ◌∷◌, length, get_or, drop, Bool, true, false, nat_eq, nat_lt, refl, ap, arith, ◌∙◌}
 use Rattle.std.specs.List.{list_all, list_any}
 use Rattle.std.proofs.lemmas.Bool.Decides.{nat_tests}
@@ -8,11 +8,13 @@ use Rattle.halo_status.specs.StatusTree.{tree_of, trees_in}
 use Rattle.halo_status.specs.Tree.{joint, last}
 use Rattle.halo_status.proofs.Walk.{left_at}
 
-pub count_true-le-length : (bs : List Bool) → count_true bs ≤ length bs
+-- no more are true than there are
+count_true-le-length : (bs : List Bool) → count_true bs ≤ length bs
 count_true-le-length [] = omega arith
 count_true-le-length (true ∷ bs) = omega (arith, count_true-le-length bs)
 count_true-le-length (false ∷ bs) = omega (arith, count_true-le-length bs)
 
+-- each member either exists or does not
 length-each_exists : (alive on : ℕ → Bool) (ss : List Status) → length (each_exists alive on (trees_in ss)) ≡ length ss
 length-each_exists alive on [] = refl
 length-each_exists alive on (s ∷ ss) = ap suc (length-each_exists alive on ss)
@@ -38,6 +40,7 @@ any_counted [] = refl
 any_counted (true ∷ bs) = positive _
 any_counted (false ∷ bs) = any_counted bs
 
+-- where so many members exist, joint life and last survivor are decided by that number
 module _ (alive on : ℕ → Bool) (ss : List Status) (count : ℕ) (counted : count ≡ count_true (each_exists alive on (trees_in ss))) where
   pub joint_exists : (members : ℕ) → members ≡ length ss → nat_eq count members ≡ exists alive on (joint (trees_in ss))
   joint_exists members e = rw (counted, e, ← length-each_exists alive on ss) (all_counted (each_exists alive on (trees_in ss)))

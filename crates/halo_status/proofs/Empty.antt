@@ -11,6 +11,7 @@ abbrev NoneTrue : List Bool → Type 0
 NoneTrue [] = Unit {0}
 NoneTrue (b ∷ bs) = (b ≡ false) × NoneTrue bs
 
+-- then not one is true, their number is 0, and it is no number of at least 1
 any_false : (bs : List Bool) → NoneTrue bs → list_any (λ b. b) bs ≡ false
 any_false [] h = refl
 any_false (true ∷ bs) h = absurd (let e : true ≡ false = h.0 in cc)

@@ -16,6 +16,7 @@ EachImplies [] [] = Unit {0}
 EachImplies (b ∷ bs) (c ∷ cs) = (b ≡ true → c ≡ true) × EachImplies bs cs
 EachImplies _ _ = ⊥
 
+-- all stay true, one of them stays true, and no fewer are true
 all_true : (bs cs : List Bool) → EachImplies bs cs → list_all (λ b. b) bs ≡ true → list_all (λ b. b) cs ≡ true
 all_true [] [] h e = refl
 all_true [] (c ∷ cs) h e = absurd h
@@ -39,6 +40,7 @@ count_true-le (true ∷ bs) (c ∷ cs) h = rw (h.0 refl) (omega (arith, count_tr
 count_true-le (false ∷ bs) (true ∷ cs) h = omega (arith, count_true-le bs cs h.1)
 count_true-le (false ∷ bs) (false ∷ cs) h = count_true-le bs cs h.1
 
+-- a number that is reached is reached by more
 reaches : (r m n : ℕ) → m ≤ n → nat_le r m ≡ true → nat_le r n ≡ true
 reaches r m n h e = grind (arith, nat_tests)
 
@@ -63,10 +65,12 @@ contrary : (b c : Bool) → (b ≡ true → c ≡ true) → c ≡ false → b �
 contrary true c implies e = absurd (let t : c ≡ true = implies refl in cc)
 contrary false c implies e = refl
 
+-- a lasting status that does not exist does not exist with less
 pub falls_once : LastingFallsOnce
 falls_once alive still_alive on still_on s lasting lives terms e =
     contrary _ _ (lasts still_alive alive still_on on lives terms s lasting) e
 
+-- what is below a number that is at most k is at most k
 below : (m n k : ℕ) → m ≤ n → nat_le n k ≡ true → nat_le m k ≡ true
 below m n k h e = grind (arith, nat_tests)
 
@@ -75,6 +79,7 @@ is_on_later : (view : View) (t later : ℕ) → t ≤ later → IsSubset (is_on 
 is_on_later Due t later h n e = below (suc t) (suc later) n (omega arith) e
 is_on_later Immediate t later h n e = below t later n h e
 
+-- nor later
 pub stays_fallen : LastingStaysFallen
 stays_fallen alive still_alive view t later s lasting lives h e =
     falls_once alive still_alive (is_on view t) (is_on view later) s lasting lives (is_on_later view t later h) e

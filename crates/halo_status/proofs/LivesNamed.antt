@@ -13,6 +13,7 @@ use Rattle.halo_status.proofs.Masks.{has_bit-or}
 use Rattle.halo_status.proofs.Shapes.{tree_of-After}
 use Rattle.halo_status.proofs.Walk.{left_at}
 
+-- one status after another names the lives of both
 names_life-After : (i : ℕ) (now : Status) (s t : Box Status Global) → now ≡ After s t
     → names_life i (tree_of now) ≡ (names_life i (tree_of s.value) || names_life i (tree_of t.value))
 names_life-After i now s t h = rw (h, tree_of-After s t)
@@ -35,7 +36,7 @@ module _ (bound : ℕ) (now : Status) where
   pub names_below_members : (ms : List Status) → HasMembers now ms → NamesLivesBelow bound (tree_of now) → AnyNamesLivesBelow bound (trees_in ms)
   names_below_members ms h below i named = below i (names_life-list i now ms h ∙ named)
 
--- a mask has the lives of both where it is made of theirs
+-- the union of the masks of both is the mask of one after the other
 pub both_lives : (now : Status) (s t : Box Status Global) (first second : ℕ) → now ≡ After s t
     → ((i : ℕ) → has_bit first i ≡ names_life i (tree_of s.value)) → ((i : ℕ) → has_bit second i ≡ names_life i (tree_of t.value))
     → (i : ℕ) → has_bit (bit_or first second) i ≡ names_life i (tree_of now)

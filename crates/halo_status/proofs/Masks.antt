@@ -1,16 +1,14 @@
--- Sets of numbers as masks: none, one number, and the union of two sets.
+-- Sets of numbers as masks: one number, and the union of two sets.
 use Rattle.std.proofs.Common.{◌≡◌, ◌≢◌, ◌⊎◌, ℕ, ◌*◌, ◌%◌, ◌^◌, ◌<◌, true, false, ◌||◌, nat_eq, arith, inl, inr}
 use Rattle.std.specs.Int.{bit_at}
 use Rattle.std.specs.Prelude.{bit_or, max}
 use Rattle.std.proofs.lemmas.Bool.Decides.{eqb_tells, nat_tests}
-use Rattle.std.proofs.lemmas.Nat.Bits.{bit_at-zero, bit_at_or, bit_at-pow_same, bit_at-pow_other}
+use Rattle.std.proofs.lemmas.Nat.Bits.{bit_at_or, bit_at-pow_same, bit_at-pow_other}
 use Rattle.std.proofs.Math.Pow.{pow-lt}
 use Rattle.halo_status.specs.Mask.{has_bit}
 
-pub has_bit-zero : (i : ℕ) → has_bit 0 i ≡ false
-has_bit-zero i = rw (bit_at-zero i)
-
-pub has_bit-pow : (i j : ℕ) → has_bit (2 ^ i) j ≡ nat_eq j i
+-- the mask of one number has that number alone
+has_bit-pow : (i j : ℕ) → has_bit (2 ^ i) j ≡ nat_eq j i
 has_bit-pow i j = by_equality (eqb_tells j i)
   where
     by_equality : ((nat_eq j i ≡ true) × (j ≡ i)) ⊎ ((nat_eq j i ≡ false) × (j ≢ i)) → has_bit (2 ^ i) j ≡ nat_eq j i
@@ -24,10 +22,11 @@ greater_bit x y f g = grind (arith, nat_tests)
 bit_at-lt : (n i : ℕ) → bit_at n i < 2
 bit_at-lt n i = omega arith
 
+-- the mask of a union has the numbers of both
 pub has_bit-or : (a b i : ℕ) → has_bit (bit_or a b) i ≡ (has_bit a i || has_bit b i)
 has_bit-or a b i = rw (bit_at_or a b i) (greater_bit _ _ (bit_at-lt a i) (bit_at-lt b i))
 
--- the mask of one number below 16
+-- and so a number below 16, as 16 bits keep it
 pub has_bit-shl : (i j : ℕ) → i < 16 → has_bit (1 * 2 ^ i % 65536) j ≡ nat_eq j i
 has_bit-shl i j h =
     let small : 2 ^ i < 65536 = pow-lt h in
