@@ -17,10 +17,11 @@ abbrev mutual
   any_names_life i none = false
   any_names_life i (more s ms) = names_life i s || any_names_life i ms
 
--- each life that stands there has a number below some bound
+-- each life that stands in a status has a number below some bound
 abbrev pub NamesLivesBelow : ℕ → Tree → Type 0
 NamesLivesBelow bound s = (i : ℕ) → IsTrue (names_life i s) → i < bound
 
+-- each life that stands in one of the members has
 abbrev pub AnyNamesLivesBelow : ℕ → Trees → Type 0
 AnyNamesLivesBelow bound ms = (i : ℕ) → IsTrue (any_names_life i ms) → i < bound
 
