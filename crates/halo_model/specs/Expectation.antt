@@ -1,0 +1,42 @@
+-- Sums over outcomes, and what they come to: chances that lives are there, and that one leaves.
+use Rattle.std.specs.Prelude.{ℕ, zero, suc, Bool, true, false, cond, ◌&&◌, nat_eq, nat_lt, List, [], ◌∷◌, Option, Some, None, ℤ, pos, ◌-ℤ◌, ◌*ℤ◌}
+use Rattle.halo_sums.specs.Sums.{int_sum_over}
+use Rattle.halo_model.specs.Life.{PlainLife, after_first, leavers_by}
+use Rattle.halo_model.specs.Outcome.{Exit, Outcome, outcomes, weight}
+
+-- the sum over the outcomes from T, with the lives of S alive, of weight times f: the expectation of f times the joint survivors
+abbrev pub expected : ℕ → (ℕ → Bool) → List PlainLife → (Outcome → ℤ) → ℤ
+expected T S lives f = int_sum_over (outcomes T S lives) (λ o. pos (weight lives o) *ℤ f o)
+
+-- the weight of the outcomes in which exactly the lives of a set are there, each life i at the time `times i`
+abbrev pub exactly_there : (ℕ → ℕ) → ℕ → (ℕ → Bool) → List PlainLife → List Bool → ℤ
+exactly_there times T S [] u = pos 1
+exactly_there times T S (x ∷ lives) [] = pos 1
+exactly_there times T S (x ∷ lives) (true ∷ u) = cond (S 0) (pos (x.survivors (times 0))) (pos 0) *ℤ exactly_there (after_first times) T (after_first S) lives u
+exactly_there times T S (x ∷ lives) (false ∷ u) = cond (S 0) (pos (x.survivors T) -ℤ pos (x.survivors (times 0))) (pos 1) *ℤ exactly_there (after_first times) T (after_first S) lives u
+
+-- the weight of the outcomes in which at least the lives of a set are there
+abbrev pub all_there : (ℕ → ℕ) → ℕ → (ℕ → Bool) → List PlainLife → List Bool → ℤ
+all_there times T S [] s = pos 1
+all_there times T S (x ∷ lives) [] = pos 1
+all_there times T S (x ∷ lives) (true ∷ s) = cond (S 0) (pos (x.survivors (times 0))) (pos 0) *ℤ all_there (after_first times) T (after_first S) lives s
+all_there times T S (x ∷ lives) (false ∷ s) = cond (S 0) (pos (x.survivors T)) (pos 1) *ℤ all_there (after_first times) T (after_first S) lives s
+
+-- the weight of those in which life a leaves in year k by one of some causes and at least the others of a set are there;
+-- 0 for a set without a
+abbrev pub all_there_at_leaving : ℕ → (ℕ → Bool) → ℕ → (ℕ → ℕ) → ℕ → (ℕ → Bool) → List PlainLife → List Bool → ℤ
+all_there_at_leaving a causes k times T S [] s = pos 1
+all_there_at_leaving a causes k times T S (x ∷ lives) [] = pos 1
+all_there_at_leaving zero causes k times T S (x ∷ lives) (true ∷ s) = pos (leavers_by causes x k) *ℤ all_there (after_first times) T (after_first S) lives s
+all_there_at_leaving zero causes k times T S (x ∷ lives) (false ∷ s) = pos 0 *ℤ all_there (after_first times) T (after_first S) lives s
+all_there_at_leaving (suc a) causes k times T S (x ∷ lives) (true ∷ s) = cond (S 0) (pos (x.survivors (times 0))) (pos 0) *ℤ all_there_at_leaving a causes k (after_first times) T (after_first S) lives s
+all_there_at_leaving (suc a) causes k times T S (x ∷ lives) (false ∷ s) = cond (S 0) (pos (x.survivors T)) (pos 1) *ℤ all_there_at_leaving a causes k (after_first times) T (after_first S) lives s
+
+-- whether a life leaves in year k by one of some causes
+abbrev pub leaves_in : (ℕ → Bool) → ℕ → Option Exit → Bool
+leaves_in causes k None = false
+leaves_in causes k (Some exit) = nat_eq exit.year k && causes exit.cause
+
+-- when the other lives are looked at where life a leaves in year k: those that come before it at k + 1, the others at k
+abbrev pub looked_at : (ℕ → ℕ) → ℕ → ℕ → ℕ → ℕ
+looked_at rank a k i = cond (nat_lt (rank i) (rank a)) (suc k) k

@@ -1,0 +1,17 @@
+pub mod Life
+pub mod FromTables
+pub mod Outcome
+pub mod There
+pub mod Order
+pub mod Event
+pub mod Basis
+pub mod Payment
+pub mod Value
+pub mod Premium
+pub mod Horizon
+pub mod Coefficient
+pub mod Segment
+pub mod Counts
+pub mod Expectation
+pub mod SmallBasis
+pub mod WorkedRows

@@ -1,0 +1,34 @@
+-- Net premiums and prospective reserves, as fractions.
+use Rattle.std.specs.Prelude.{ℕ, ◌*◌, Bool, true, List, Option, Some, None, ℤ, pos, ◌-ℤ◌}
+use Rattle.halo_status.specs.Tree.{Tree}
+use Rattle.halo_status.specs.Pay.{PlainPay}
+use Rattle.halo_status.specs.declared.pay.Kind.TheVariants.{Due}
+use Rattle.halo_status.specs.declared.pay.Vary.TheVariants.{Level}
+use Rattle.halo_model.specs.Basis.{Basis}
+use Rattle.halo_model.specs.Value.{denominator, numerator, total_numerator}
+
+-- all lives, as they are alive at the start
+abbrev pub all_lives : ℕ → Bool
+all_lives i = true
+
+-- what a premium of 1 pays: 1 each year in advance while a status exists
+abbrev pub premium_pay : Tree → PlainPay
+premium_pay status = record { amount = 1; vary = Level; kind = Due; defer = 0; causes = None; body = status; mark = None }
+
+-- the net premium of some pays is premium_numerator / premium_denominator: their value over that of a premium of 1, at the start
+unfoldable pub premium_numerator : Basis → List PlainPay → ℕ
+premium_numerator b pays = total_numerator b pays 0 all_lives
+
+unfoldable pub premium_denominator : Basis → Tree → ℕ
+premium_denominator b status = numerator b (premium_pay status) 0 all_lives
+
+-- the reserve at T with the lives of S alive is reserve_numerator / reserve_denominator: the value of the pays still to
+-- come, less that of the net premiums still to come, if there are premiums
+unfoldable pub reserve_numerator : Basis → List PlainPay → Option Tree → ℕ → (ℕ → Bool) → ℤ
+reserve_numerator b pays None T S = pos (total_numerator b pays T S)
+reserve_numerator b pays (Some status) T S =
+    pos (total_numerator b pays T S * premium_denominator b status) -ℤ pos (premium_numerator b pays * numerator b (premium_pay status) T S)
+
+unfoldable pub reserve_denominator : Basis → Option Tree → ℕ → (ℕ → Bool) → ℕ
+reserve_denominator b None T S = denominator b T S
+reserve_denominator b (Some status) T S = denominator b T S * premium_denominator b status
