@@ -1,1 +1,9 @@
 pub mod WorkedRows
+pub mod FromTables
+pub mod Weights
+pub mod Expected
+pub mod OneLife
+pub mod BySets
+pub mod Readings
+pub mod LifeReadings
+pub mod Leaving

@@ -1,5 +1,5 @@
 -- Sums over outcomes, and what they come to: chances that lives are there, and that one leaves.
-use Rattle.std.specs.Prelude.{ℕ, zero, suc, Bool, true, false, cond, ◌&&◌, nat_eq, nat_lt, List, [], ◌∷◌, Option, Some, None, ℤ, pos, ◌-ℤ◌, ◌*ℤ◌}
+use Rattle.std.specs.Prelude.{ℕ, zero, suc, ◌<◌, Bool, true, false, cond, ◌&&◌, nat_eq, nat_lt, List, [], ◌∷◌, set, Option, Some, None, ℤ, pos, ◌-ℤ◌, ◌*ℤ◌}
 use Rattle.halo_sums.specs.Sums.{int_sum_over}
 use Rattle.halo_model.specs.Life.{PlainLife, after_first, leavers_by}
 use Rattle.halo_model.specs.Outcome.{Exit, Outcome, outcomes, weight}
@@ -40,3 +40,13 @@ leaves_in causes k (Some exit) = nat_eq exit.year k && causes exit.cause
 -- when the other lives are looked at where life a leaves in year k: those that come before it at k + 1, the others at k
 abbrev pub looked_at : (ℕ → ℕ) → ℕ → ℕ → ℕ → ℕ
 looked_at rank a k i = cond (nat_lt (rank i) (rank a)) (suc k) k
+
+-- the derivative of f in life a at a set: f with a less f without it
+abbrev pub derivative : (List Bool → ℤ) → ℕ → List Bool → ℤ
+derivative f a u = f (set u a true) -ℤ f (set u a false)
+
+-- life a is one of the lives, and its table has year k
+abbrev pub HasYear : ℕ → ℕ → List PlainLife → Type 0
+HasYear a k [] = ⊥
+HasYear zero k (x ∷ lives) = k < x.years_left
+HasYear (suc a) k (x ∷ lives) = HasYear a k lives

@@ -15,3 +15,4 @@ pub mod Counts
 pub mod Expectation
 pub mod SmallBasis
 pub mod WorkedRows
+pub mod Laws

@@ -8,4 +8,5 @@
 //! two whole numbers. Times and years count from the start of the contract.
 #![tactic(auto)]
 
+pub mod laws;
 pub mod rows;
