@@ -7,3 +7,4 @@ pub mod BySets
 pub mod Readings
 pub mod LifeReadings
 pub mod Leaving
+pub mod Longest

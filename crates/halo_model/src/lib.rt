@@ -10,3 +10,6 @@
 
 pub mod laws;
 pub mod rows;
+mod years;
+
+pub use years::horizon;
