@@ -8,3 +8,9 @@ pub mod Readings
 pub mod LifeReadings
 pub mod Leaving
 pub mod Longest
+pub mod Agreement
+pub mod Fails
+pub mod Falls
+pub mod Marked
+pub mod Ends
+pub mod NoChance

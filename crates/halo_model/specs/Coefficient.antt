@@ -29,9 +29,13 @@ abbrev pub exists_by_mark : Option Mark → Tree → (ℕ → Bool) → (ℕ →
 exists_by_mark None body alive on = exists alive on body
 exists_by_mark (Some mark) body alive on = waits_at_rank mark (each_exists alive on (members_of body))
 
--- the function f of a pay at time t: 1 for the sets of lives with which it exists, else 0
+-- the function f of a pay for some terms that are on: 1 for the sets of lives with which it exists, else 0
+abbrev pub existence_with : PlainPay → (ℕ → Bool) → List Bool → ℤ
+existence_with pay on alive = indicator (exists_by_mark pay.mark pay.body (in_set alive) on)
+
+-- and at time t, for the terms that are on then
 abbrev pub existence : PlainPay → ℕ → List Bool → ℤ
-existence pay t alive = indicator (exists_by_mark pay.mark pay.body (in_set alive) (is_on (view_of pay.kind) t))
+existence pay t = existence_with pay (is_on (view_of pay.kind) t)
 
 -- the coefficients of the form of a pay at time t, for each set of lives
 unfoldable pub form : PlainPay → ℕ → List Bool → ℤ

@@ -16,3 +16,5 @@ pub mod Expectation
 pub mod SmallBasis
 pub mod WorkedRows
 pub mod Laws
+pub mod Chance
+pub mod ChanceLaws
