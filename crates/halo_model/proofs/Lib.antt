@@ -14,3 +14,6 @@ pub mod Falls
 pub mod Marked
 pub mod Ends
 pub mod NoChance
+pub mod Annuities
+pub mod Insurances
+pub mod Outside

@@ -41,3 +41,16 @@ abbrev pub NoChanceOnOtherEnd : Type 0
 NoChanceOnOtherEnd = (pay : PlainPay) (rank : ℕ → ℕ) (T n : ℕ)
     → IsMarkedAnd pay.mark pay.body (λ s. names_term n s ≡ false)
     → (S : ℕ → Bool) (lives : List PlainLife) → expected T S lives (λ o. indicator (falls_on pay rank T o (ends n))) ≡ pos 0
+
+-- on a leaving that cannot come or that the pay does not allow: of a life that is not alive at T, in a year before T, before
+-- the deferral or past the life's table
+abbrev pub NoChanceOnLeavingOutside : Type 0
+NoChanceOnLeavingOutside = (pay : PlainPay) (rank : ℕ → ℕ) (T a k : ℕ) (S : ℕ → Bool) (lives : List PlainLife)
+    → (IsTrue (S a) → T ≤ k → pay.defer ≤ k → HasYear a k lives → ⊥)
+    → expected T S lives (λ o. indicator (paid_on_leaving pay rank T a k o)) ≡ pos 0
+
+-- on the end of a term that the pay does not allow: by a set of causes, before the deferral or before T
+abbrev pub NoChanceOnEndOutside : Type 0
+NoChanceOnEndOutside = (pay : PlainPay) (rank : ℕ → ℕ) (T n : ℕ) (S : ℕ → Bool) (lives : List PlainLife)
+    → (pay.causes ≡ None → pay.defer ≤ n - 1 → T ≤ n - 1 → ⊥)
+    → expected T S lives (λ o. indicator (falls_on pay rank T o (ends n))) ≡ pos 0

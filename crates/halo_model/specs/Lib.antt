@@ -18,3 +18,5 @@ pub mod WorkedRows
 pub mod Laws
 pub mod Chance
 pub mod ChanceLaws
+pub mod Part
+pub mod PartLaws

@@ -1,6 +1,7 @@
 // Laws of the definitions: functions that do nothing, whose contracts are the laws.
-ghost use Rattle.halo_model.specs.ChanceLaws.{ChanceOnEnd, ChanceOnLeaving, NoChanceOnOtherEnd, NoChanceOnOtherLeaving};
+ghost use Rattle.halo_model.specs.ChanceLaws.{ChanceOnEnd, ChanceOnLeaving, NoChanceOnEndOutside, NoChanceOnLeavingOutside, NoChanceOnOtherEnd, NoChanceOnOtherLeaving};
 ghost use Rattle.halo_model.specs.Laws.{ExpectedByCoefficients, ExpectedBySets, LivesOfTablesKeepTheRule, WeightsAddUp};
+ghost use Rattle.halo_model.specs.PartLaws.{DueByParts, ImmediateByParts, InsuranceByParts};
 
 /// Lives that have rows in the tables of a file without fault keep the rule of a decrement table:
 /// the next survivors are the survivors less the leavers, and after the last year nobody is alive.
@@ -21,16 +22,27 @@ pub fn expected_of_the_lives_there()
 {}
 
 /// The chance that a payment of an insurance falls on a life's leaving, for any order of lives:
-/// by the coefficients of its form; on a marked list none falls on the life of another member.
+/// by the coefficients of its form. None falls on a leaving that cannot come or is not allowed,
+/// nor, on a marked list, on the leaving of a life that the marked member does not name.
 pub fn chance_on_a_leaving()
     ensures chance { ChanceOnLeaving }
+    ensures none_outside { NoChanceOnLeavingOutside }
     ensures none_on_others { NoChanceOnOtherLeaving }
 {}
 
 /// The chance that a payment of an insurance by any cause falls on the end of a term: by the
-/// coefficients of what its form loses with the term; on a marked list none falls on the end of
-/// another member's term.
+/// coefficients of what its form loses with the term. None falls on an end that is not allowed,
+/// nor, on a marked list, on the end of a term that the marked member does not name.
 pub fn chance_on_an_end()
     ensures chance { ChanceOnEnd }
+    ensures none_outside { NoChanceOnEndOutside }
     ensures none_on_others { NoChanceOnOtherEnd }
+{}
+
+/// The value of a pay is the sum of its parts: of an annuity, over the times at which it can pay;
+/// of an insurance, in each order taken, over the leavings of the lives and the ends of the terms.
+pub fn values_by_parts()
+    ensures due { DueByParts }
+    ensures immediate { ImmediateByParts }
+    ensures insurance { InsuranceByParts }
 {}

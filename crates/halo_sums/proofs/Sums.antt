@@ -1,5 +1,5 @@
 -- Sums of natural numbers over lists.
-use Rattle.std.proofs.Common.{◌≡◌, ℕ, ◌+◌, ◌*◌, arith, refl, ap, ◌∙◌, List, [], ◌∷◌, ◌++◌, map}
+use Rattle.std.proofs.Common.{◌≡◌, ℕ, ◌+◌, ◌*◌, arith, refl, ap, ◌∙◌, List, [], ◌∷◌, ◌++◌, length, map}
 use Rattle.std.proofs.Math.Path.{fun_ext}
 use Rattle.std.specs.List.{flat_map}
 use Rattle.halo_sums.specs.Sums.{sum_over}
@@ -32,3 +32,7 @@ module _ {X Y : Type 0} where
   pub sum_over-flat_map : (h : X → List Y) (xs : List X) (f : Y → ℕ) → sum_over (flat_map h xs) f ≡ sum_over xs (λ x. sum_over (h x) f)
   sum_over-flat_map h [] f = refl
   sum_over-flat_map h (x ∷ xs) f = sum_over-append (h x) (flat_map h xs) f ∙ ap (λ n. sum_over (h x) f + n) (sum_over-flat_map h xs f)
+
+pub sum_over-const : {X : Type 0} (xs : List X) (c : ℕ) → sum_over xs (λ x. c) ≡ length xs * c
+sum_over-const [] c = omega arith
+sum_over-const (x ∷ xs) c = omega (arith, sum_over-const xs c)
