@@ -6,14 +6,14 @@ use Rattle.halo_status.specs.Tree.{Tree, Trees, life, term, joint, last, at_leas
 use Rattle.halo_status.specs.Exists.{count_true, each_exists, exists}
 use Rattle.halo_status.specs.Naming.{any_names_life, any_names_term, names_life, names_term}
 
-same : (i : ℕ) → nat_eq i i ≡ true
+pub same : (i : ℕ) → nat_eq i i ≡ true
 same i = grind (arith, nat_tests)
 
-or-left : (a b : Bool) → a ≡ true → (a || b) ≡ true
+pub or-left : (a b : Bool) → a ≡ true → (a || b) ≡ true
 or-left true b e = refl
 or-left false b e = absurd (cc)
 
-or-right : (a b : Bool) → b ≡ true → (a || b) ≡ true
+pub or-right : (a b : Bool) → b ≡ true → (a || b) ≡ true
 or-right true b e = refl
 or-right false b e = e
 

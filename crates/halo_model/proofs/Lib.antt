@@ -17,3 +17,4 @@ pub mod NoChance
 pub mod Annuities
 pub mod Insurances
 pub mod Outside
+pub mod HorizonIsLeast

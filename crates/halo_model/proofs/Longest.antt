@@ -1,7 +1,6 @@
 -- The longest of the years of a status: what its parts need, and what they add up to.
-use Rattle.std.proofs.Common.{◌≡◌, ◌⊎◌, ℕ, zero, suc, ◌+◌, ◌<◌, ◌≤◌, List, [], ◌∷◌, Bool, true, false, ◌||◌, nat_eq, length, drop, max, refl, ap, sym, arith, inl, inr, Some}
+use Rattle.std.proofs.Common.{◌≡◌, ◌⊎◌, ℕ, zero, suc, ◌+◌, ◌<◌, ◌≤◌, List, [], ◌∷◌, true, length, drop, max, ap, sym, arith, inl, inr, Some}
 use Rattle.std.specs.Prelude.{slice_get}
-use Rattle.std.proofs.lemmas.Bool.Decides.{nat_tests}
 use Rattle.std.proofs.lemmas.List.{get_or-map}
 use Rattle.std.proofs.lemmas.Option.{get_or_from_slice_get}
 use Rattle.std.specs.declared.boxed.Box.{Box}
@@ -17,18 +16,8 @@ use Rattle.halo_status.proofs.Shapes.{tree_of-AtLeast, tree_of-Exactly, tree_of-
 use Rattle.halo_table.specs.DecrementTable.{TableFile}
 use Rattle.halo_table.specs.declared.lives.Life.{Life}
 use Rattle.halo_model.specs.FromTables.{HasRow, life_of, lives_of}
+use Rattle.halo_model.proofs.Agreement.{or-left, or-right, same}
 use Rattle.halo_model.specs.Horizon.{HasRows, HasShortTerms, HaveRows, HaveShortTerms, life_at, longest, longest_of, years_left_of}
-
-same : (i : ℕ) → nat_eq i i ≡ true
-same i = grind (arith, nat_tests)
-
-or-left : (a b : Bool) → a ≡ true → (a || b) ≡ true
-or-left true b e = refl
-or-left false b e = absurd (cc)
-
-or-right : (a b : Bool) → b ≡ true → (a || b) ≡ true
-or-right true b e = refl
-or-right false b e = e
 
 -- what holds of the tree of a status with a list of members, whichever of the four it is
 listed : (P : Tree → Type 0) (now : Status) (ms : List Status) → HasMembers now ms → P (tree_of now)

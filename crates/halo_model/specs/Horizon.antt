@@ -1,5 +1,5 @@
 -- The horizon of a status: the years after which it cannot change.
-use Rattle.std.specs.Prelude.{IsTrue, ℕ, ◌<◌, ◌≤◌, max, List, get_or, length}
+use Rattle.std.specs.Prelude.{◌↔◌, IsTrue, ℕ, ◌<◌, ◌≤◌, max, List, get_or, length}
 use Rattle.halo_status.specs.Tree.{Tree, Trees, life, term, joint, last, at_least, exactly, after, none, more}
 use Rattle.halo_status.specs.Naming.{any_names_life, any_names_term, names_life, names_term}
 use Rattle.halo_table.specs.DecrementTable.{TableFile}
@@ -48,3 +48,13 @@ HaveRows file lives members = (i : ℕ) → IsTrue (any_names_life i members) �
 
 abbrev pub HaveShortTerms : Trees → Type 0
 HaveShortTerms members = (n : ℕ) → IsTrue (any_names_term n members) → n ≤ 200
+
+-- a number of years that is at least 1, as many as each life that a status names has left, and as long as each of its terms
+pub record Covers (lives : List PlainLife) (body : Tree) (years : ℕ) : Type 0 where
+  pub one : 1 ≤ years
+  pub each_life : (i : ℕ) → IsTrue (names_life i body) → years_left_of lives i ≤ years
+  pub each_term : (n : ℕ) → IsTrue (names_term n body) → n ≤ years
+
+-- the horizon is the least number of years that covers a status
+abbrev pub HorizonIsLeast : Type 0
+HorizonIsLeast = (lives : List PlainLife) (body : Tree) (years : ℕ) → (horizon lives body ≤ years) ↔ Covers lives body years

@@ -1,5 +1,6 @@
 // Laws of the definitions: functions that do nothing, whose contracts are the laws.
 ghost use Rattle.halo_model.specs.ChanceLaws.{ChanceOnEnd, ChanceOnLeaving, NoChanceOnEndOutside, NoChanceOnLeavingOutside, NoChanceOnOtherEnd, NoChanceOnOtherLeaving};
+ghost use Rattle.halo_model.specs.Horizon.{HorizonIsLeast};
 ghost use Rattle.halo_model.specs.Laws.{ExpectedByCoefficients, ExpectedBySets, LivesOfTablesKeepTheRule, WeightsAddUp};
 ghost use Rattle.halo_model.specs.PartLaws.{DueByParts, ImmediateByParts, InsuranceByParts};
 
@@ -45,4 +46,10 @@ pub fn values_by_parts()
     ensures due { DueByParts }
     ensures immediate { ImmediateByParts }
     ensures insurance { InsuranceByParts }
+{}
+
+/// The horizon of a status is the least number of years that is at least 1, as many as each life
+/// that the status names has left, and as long as each of its terms.
+pub fn horizon_is_least()
+    ensures { HorizonIsLeast }
 {}

@@ -13,3 +13,6 @@ pub mod rows;
 mod years;
 
 pub use years::horizon;
+
+#[cfg(test)]
+mod tests;
