@@ -18,3 +18,4 @@ pub mod Annuities
 pub mod Insurances
 pub mod Outside
 pub mod HorizonIsLeast
+pub mod WorkedForms

@@ -1,5 +1,5 @@
 -- How wide an enclosure of a value may be: counts of rounding steps, from the contract and its tables alone.
-use Rattle.std.specs.Prelude.{ℕ, ◌+◌, ◌*◌, ◌^◌, cond, List, [], ◌∷◌, map, max, ℤ, pos, negsuc, suc}
+use Rattle.std.specs.Prelude.{ℕ, ◌+◌, ◌*◌, ◌^◌, cond, List, [], ◌∷◌, length, map, max, ℤ, pos, negsuc, suc}
 use Rattle.halo_sums.specs.Sums.{numbers_from, sum_over}
 use Rattle.halo_status.specs.Tree.{Tree}
 use Rattle.halo_status.specs.Naming.{names_life}
@@ -9,6 +9,8 @@ use Rattle.halo_status.specs.declared.pay.Kind.{Kind}
 use Rattle.halo_status.specs.declared.pay.Kind.TheVariants.{Insurance, Due, Immediate}
 use Rattle.halo_status.specs.declared.pay.Vary.{Vary}
 use Rattle.halo_status.specs.declared.pay.Vary.TheVariants.{Level, Increasing, Decreasing}
+use Rattle.halo_model.specs.Basis.{Basis}
+use Rattle.halo_model.specs.Horizon.{horizon}
 use Rattle.halo_model.specs.Order.{Ties, all_orders}
 use Rattle.halo_model.specs.Segment.{coefficients_at, first_time}
 
@@ -41,7 +43,7 @@ abbrev pub order_share : Ties → Kind → ℕ → ℕ
 order_share all_orders Insurance named = 2 ^ (named + 1)
 order_share _ _ named = 1
 
--- what the counts of a pay are made of: the nodes of its body, the lives that it names, its horizon, the weight of its form,
+-- what the counts of a pay are made of, each from the contract and its tables: the nodes of its body, the lives that it names, its horizon, the weight of its form,
 -- its greatest factor, and the share of the orders
 pub record Measures : Type 0 where
   pub nodes : ℕ
@@ -51,15 +53,18 @@ pub record Measures : Type 0 where
   pub factor : ℕ
   pub share : ℕ
 
-abbrev pub measures_of : Ties → ℕ → PlainPay → ℕ → Measures
-measures_of ties lives pay horizon = record {
-  nodes = nodes pay.body;
-  named = lives_named lives pay.body;
-  horizon = horizon;
-  weight = form_weight pay lives horizon;
-  factor = greatest_factor pay.vary horizon;
-  share = order_share ties pay.kind (lives_named lives pay.body);
-}
+abbrev pub measures_of : Basis → PlainPay → Measures
+measures_of b pay =
+    let lives : ℕ = length b.lives in
+    let years : ℕ = horizon b.lives pay.body in
+    record {
+      nodes = nodes pay.body;
+      named = lives_named lives pay.body;
+      horizon = years;
+      weight = form_weight pay lives years;
+      factor = greatest_factor pay.vary years;
+      share = order_share b.ties pay.kind (lives_named lives pay.body);
+    }
 
 -- the width in fine units that the value of a pay of amount 1 may have (Count)
 unfoldable pub width_count : Measures → ℕ

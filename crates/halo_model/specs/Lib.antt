@@ -20,3 +20,5 @@ pub mod Chance
 pub mod ChanceLaws
 pub mod Part
 pub mod PartLaws
+pub mod Widths
+pub mod WorkedForms

@@ -26,15 +26,15 @@ pub record Run : Type 0 where
   pub last : ℕ
 
 -- the times of a run have equal coefficients
-abbrev pub IsEven : PlainPay → ℕ → Run → Type 0
-IsEven pay n run = (t : ℕ) → run.first ≤ t → t ≤ run.last → coefficients_at pay n t ≡ coefficients_at pay n run.first
+abbrev pub IsUniform : PlainPay → ℕ → Run → Type 0
+IsUniform pay n run = (t : ℕ) → run.first ≤ t → t ≤ run.last → coefficients_at pay n t ≡ coefficients_at pay n run.first
 
 -- some runs follow one another from a first time to a last one; the coefficients are equal within each run, and change between them
 abbrev pub AreSegmentsFrom : PlainPay → ℕ → ℕ → ℕ → List Run → Type 0
 AreSegmentsFrom pay n first last [] = ⊥
-AreSegmentsFrom pay n first last (run ∷ []) = (run ≡ record { first = first; last = last }) × (first ≤ last) × IsEven pay n run
+AreSegmentsFrom pay n first last (run ∷ []) = (run ≡ record { first = first; last = last }) × (first ≤ last) × IsUniform pay n run
 AreSegmentsFrom pay n first last (run ∷ next ∷ runs) =
-    (run.first ≡ first) × (first ≤ run.last) × IsEven pay n run
+    (run.first ≡ first) × (first ≤ run.last) × IsUniform pay n run
     × (coefficients_at pay n (suc run.last) ≢ coefficients_at pay n first)
     × AreSegmentsFrom pay n (suc run.last) last (next ∷ runs)
 

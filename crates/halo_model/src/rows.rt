@@ -1,4 +1,5 @@
-// Worked values: a function that does nothing, whose contract says that they come out.
+// Worked values: functions that do nothing, whose contracts say that they come out.
+ghost use Rattle.halo_model.specs.WorkedForms.{FormRows, LongRows};
 ghost use Rattle.halo_model.specs.WorkedRows.{AnnuityRows, CauseRows, EvenRows, InsuranceRows, InterestRows, PremiumRows, VaryingRows};
 
 /// The values that the definitions give on a basis of small tables, worked out by hand.
@@ -10,4 +11,11 @@ pub fn worked_rows()
     ensures even { EvenRows }
     ensures interest { InterestRows }
     ensures premiums { PremiumRows }
+{}
+
+/// The coefficients of some forms, worked out by hand, and the value, horizon and widths of two
+/// lives of whom one in 60 and one in 50 leaves each year.
+pub fn worked_forms()
+    ensures forms { FormRows }
+    ensures long { LongRows }
 {}
