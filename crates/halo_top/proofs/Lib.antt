@@ -1,9 +1,11 @@
+mod Amounts
 mod Calls
 mod Cuts
 mod Digits
 mod Files
 mod InterestLine
 mod LifeLine
+mod OneLifeDue
 mod OneLifeForm
 mod PayLine
 mod Told

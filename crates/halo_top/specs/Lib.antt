@@ -1,6 +1,7 @@
 pub mod Command
 pub mod Input
 pub mod OneLife
+pub mod ExactValue
 pub mod Refusal
 pub mod Cut
 pub mod Decimal
