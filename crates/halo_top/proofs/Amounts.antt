@@ -15,7 +15,9 @@ use Rattle.halo_model.specs.Payment.{pays_due}
 use Rattle.halo_model.specs.Premium.{all_lives}
 use Rattle.halo_model.specs.Value.{denominator, due_value, numerator, ranked_numerator, total_numerator}
 use Rattle.halo_model.specs.Widths.{printed_pay_width, printed_total_width}
-use Rattle.halo_top.specs.ExactValue.{EnclosesPay, EnclosesTotal, due_pay}
+use Rattle.halo_table.specs.DecrementTable.{TableFile}
+use Rattle.halo_top.specs.ExactValue.{EnclosesContract, EnclosesPay, EnclosesTotal, due_pay, one_life_basis}
+use Rattle.halo_top.specs.declared.one_life.OneLife.{OneLife}
 
 cond-times : (is : Bool) (amount n : ℕ) → cond is (amount * 1 * n) 0 ≡ amount * cond is (1 * 1 * n) 0
 cond-times true amount n = omega arith
@@ -48,9 +50,13 @@ module _ (b : Basis) (amount : ℕ) where
       record { encloses = rw value at encloses; narrow = omega (arith, ints, rw width at narrow) }
 
 -- one pay is its total
-pub total-of-one : (b : Basis) (pay : PlainPay) (ends : Nano) → EnclosesPay b pay ends → EnclosesTotal b (pay ∷ []) ends
+total-of-one : (b : Basis) (pay : PlainPay) (ends : Nano) → EnclosesPay b pay ends → EnclosesTotal b (pay ∷ []) ends
 unfolding total_numerator printed_pay_width printed_total_width
 total-of-one b pay ends line =
     let value : numerator b pay 0 all_lives ≡ numerator b pay 0 all_lives + 0 = omega arith in
     let width : printed_pay_width b pay ≡ printed_total_width b (pay ∷ []) = ap (λ w. 2 + printed_ceiling w) (omega arith) in
     record { encloses = rw value at line.encloses; narrow = rw width at line.narrow }
+
+-- a contract's only pay is its total
+pub contract-of-one : (tables : TableFile) (contract : OneLife) (ends : Nano) → EnclosesPay (one_life_basis tables contract.interest contract.life) (due_pay contract.amount) ends → EnclosesContract tables contract ends ends
+contract-of-one tables contract ends line = record { pay_line = line; total_line = total-of-one (one_life_basis tables contract.interest contract.life) (due_pay contract.amount) ends line }

@@ -9,7 +9,8 @@ use Rattle.halo_table.specs.Grouping.{tables_of}
 use Rattle.halo_top.specs.Input.{AreTables, IsContract}
 use Rattle.halo_top.specs.OneLife.{Writes}
 use Rattle.halo_top.specs.Report.{report_of}
-use Rattle.halo_top.specs.Verdict.{AnswersFiles, Shelved}
+use Rattle.halo_top.specs.ExactValue.{EnclosesContract}
+use Rattle.halo_top.specs.Verdict.{AnswersFiles, EnclosesFiles, Shelved}
 use Rattle.halo_top.specs.declared.refusal.Stop.{Stop}
 use Rattle.halo_top.specs.declared.refusal.Stop.TheVariants as stop
 use Rattle.halo_top.specs.declared.one_life.OneLife.{OneLife}
@@ -23,9 +24,19 @@ in_order (Some all_tables) None tables bytes contract loaded short written same 
 in_order (Some all_tables) (Some all) tables bytes contract loaded short written same =
     (loaded.0, record { short = rw (← same) short; form = rw (← same, ← loaded.1) (written.written, contract.life.table, written.form) })
 
+-- the enclosures hold the values of the files as they are told
+pub values : (tables_file contract_file : Option (List ℕ)) (tables : TableFile) (bytes : List ℕ) (contract : OneLife) (pay total : Nano) → IfSome tables_file (λ all. AreTables all × (tables ≡ tables_of (records_of all)))
+    → Writes tables bytes contract → IfSome contract_file (λ all. bytes ≡ all) → EnclosesContract tables contract pay total
+    → IfSome tables_file (λ all_tables. IfSome contract_file (λ all. EnclosesFiles (tables_of (records_of all_tables)) all pay total))
+values None contract_file tables bytes contract pay total loaded written same encloses = tt
+values (Some all_tables) None tables bytes contract pay total loaded written same encloses = tt
+values (Some all_tables) (Some all) tables bytes contract pay total loaded written same encloses = rw (← same, ← loaded.1) (contract, written, encloses)
+
 -- the report of two files in order is what they answer, and so is want of memory
-pub answers : (shelf : Shelved) (tables contract : List ℕ) (result : Result (Vec ℕ) Stop)
+pub answers : (shelf : Shelved) (tables contract : List ℕ) (result : Result (Vec ℕ) Stop) (on : TableFile) (of : OneLife)
     → IfSome (shelf.file tables) (λ all_tables. AreTables all_tables × IfSome (shelf.file contract) (λ all. IsContract (tables_of (records_of all_tables)) all))
-    → IfOk result (λ text. (pay : Nano) × (total : Nano) × (text.items ≡ report_of pay total)) → IfErr result (λ r. r ≡ stop.Memory) → AnswersFiles shelf tables contract result
-answers shelf tables contract (Ok text) ordered report memory = record { in_order = ordered; pay = report.0; total = report.1; report = report.2 }
-answers shelf tables contract (Err r) ordered report memory = rw memory tt
+    → ((pay total : Nano) → EnclosesContract on of pay total → IfSome (shelf.file tables) (λ all_tables. IfSome (shelf.file contract) (λ all. EnclosesFiles (tables_of (records_of all_tables)) all pay total)))
+    → IfOk result (λ text. (pay : Nano) × (total : Nano) × EnclosesContract on of pay total × (text.items ≡ report_of pay total)) → IfErr result (λ r. r ≡ stop.Memory) → AnswersFiles shelf tables contract result
+answers shelf tables contract (Ok text) on of ordered valued report memory =
+    record { in_order = ordered; pay = report.0; total = report.1; report = report.3; values = valued report.0 report.1 report.2 }
+answers shelf tables contract (Err r) on of ordered valued report memory = rw memory tt

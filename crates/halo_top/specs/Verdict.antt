@@ -3,15 +3,18 @@ use Rattle.std.specs.Prelude.{◌≡◌, ℕ, ◌<◌, ◌≤◌, ◌⊎◌, Lis
 use Rattle.std.specs.Global.{Vec}
 use Rattle.halo_num.specs.declared.nano.Nano.{Nano}
 use Rattle.halo_records.specs.Records.{records_of}
+use Rattle.halo_table.specs.DecrementTable.{TableFile}
 use Rattle.halo_table.specs.FirstForm.{HasFirstForm}
 use Rattle.halo_table.specs.Grouping.{tables_of}
 use Rattle.halo_top.specs.Command.{AsksValue, IsCommand}
 use Rattle.halo_top.specs.Input.{AreTables, IsContract, limit_of}
-use Rattle.halo_top.specs.OneLife.{HasOneLifeForm}
+use Rattle.halo_top.specs.ExactValue.{EnclosesContract}
+use Rattle.halo_top.specs.OneLife.{HasOneLifeForm, Writes}
 use Rattle.halo_top.specs.Refusal.{line_of, status_of}
 use Rattle.halo_top.specs.Report.{report_of}
 use Rattle.halo_top.specs.declared.command.Command.{Command}
 use Rattle.halo_top.specs.declared.command.Command.TheVariants as command
+use Rattle.halo_top.specs.declared.one_life.OneLife.{OneLife}
 use Rattle.halo_top.specs.declared.refusal.InputFile.TheVariants as file
 use Rattle.halo_top.specs.declared.refusal.Refusal.{Refusal}
 use Rattle.halo_top.specs.declared.refusal.Refusal.TheVariants as refusal
@@ -38,12 +41,17 @@ Refuses shelf tables contract (refusal.NotBuilt file.Contract) = IfSome (shelf.f
     × IfSome (shelf.file contract) (λ all. (length all ≤ limit_of file.Contract) × (HasOneLifeForm (tables_of (records_of all_tables)) all → ⊥)))
 Refuses shelf tables contract refusal.Usage = ⊥
 
--- nothing is wrong with the files of these names, as far as they are told, and this is a report of two enclosures
+-- the contract that these bytes write with these tables has its exact values between the ends
+abbrev pub EnclosesFiles : TableFile → List ℕ → Nano → Nano → Type 0
+EnclosesFiles tables bytes pay total = (contract : OneLife) × Writes tables bytes contract × EnclosesContract tables contract pay total
+
+-- nothing is wrong with the files of these names, as far as they are told, and this is a report of two enclosures, which hold the exact values
 pub record IsReport (shelf : Shelved) (tables contract text : List ℕ) : Type 0 where
   pub in_order : IfSome (shelf.file tables) (λ all_tables. AreTables all_tables × IfSome (shelf.file contract) (λ all. IsContract (tables_of (records_of all_tables)) all))
   pub pay : Nano
   pub total : Nano
   pub report : text ≡ report_of pay total
+  pub values : IfSome (shelf.file tables) (λ all_tables. IfSome (shelf.file contract) (λ all. EnclosesFiles (tables_of (records_of all_tables)) all pay total))
 
 -- the report of the files of these names, or why there is none; want of memory is free
 abbrev pub AnswersFiles : Shelved → List ℕ → List ℕ → Result (Vec ℕ) Stop → Type 0

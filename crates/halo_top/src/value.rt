@@ -2,6 +2,7 @@
 ghost use Rattle.std.specs.Prelude.{◌≡◌, ◌<◌, ◌≤◌, ◌^◌, ℕ, List, IfErr, IfOk};
 ghost use Rattle.halo_io.specs.Counts.{Rose};
 ghost use Rattle.halo_num.specs.declared.nano.Nano.{Nano};
+ghost use Rattle.halo_top.specs.ExactValue.{EnclosesContract};
 ghost use Rattle.halo_top.specs.OneLife.{IsAlive};
 ghost use Rattle.halo_top.specs.Report.{report_of};
 ghost use Rattle.halo_top.specs.Verdict.{AnswersFiles};
@@ -45,7 +46,7 @@ fn report<L: Ledger>(
     requires some { 0 < L.parts }
     requires life { IsAlive tables.now contract.now.life }
     requires amount { contract.now.amount ≤ 10 ^ 10 }
-    ensures text { IfOk result (λ text. (pay : Nano) × (total : Nano) × (text.items ≡ report_of pay total)) }
+    ensures text { IfOk result (λ text. (pay : Nano) × (total : Nano) × EnclosesContract tables.now contract.now pay total × (text.items ≡ report_of pay total)) }
     ensures memory { IfErr result (λ stop. stop ≡ Stop.Memory) }
 {
     let mut steps = Steps::<L>::new(blank);
