@@ -1,7 +1,7 @@
 -- The value of a pay is its amount times the value of 1, and the total of one pay is that pay.
-use Rattle.std.proofs.Common.{◌≡◌, ℕ, suc, ◌+◌, ◌*◌, ◌≤◌, arith, refl, ap, sym, ◌∙◌, [], ◌∷◌, Bool, true, false, cond, ℤ, pos, ◌*ℤ◌, ◌+ℤ◌, ◌≤ℤ◌}
+use Rattle.std.proofs.Common.{◌≡◌, ℕ, suc, ◌+◌, ◌*◌, arith, ap, ◌∙◌, [], ◌∷◌, Bool, true, false, cond, pos, ◌*ℤ◌, ◌+ℤ◌, ◌≤ℤ◌}
 use Rattle.std.proofs.lemmas.Int.{ints}
-use Rattle.halo_sums.specs.Sums.{numbers_from, sum_over}
+use Rattle.halo_sums.specs.Sums.{numbers_from}
 use Rattle.halo_sums.proofs.Sums.{sum_over-ext, sum_over-scale}
 use Rattle.halo_num.specs.Ends.{printed_ceiling}
 use Rattle.halo_num.specs.Enclosure.{EnclosesPrinted}

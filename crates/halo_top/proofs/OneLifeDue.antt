@@ -1,10 +1,9 @@
 -- The value of an annuity-due on one life, year by year.
-use Rattle.std.proofs.Common.{◌≡◌, ℕ, zero, suc, ◌+◌, ◌*◌, ◌-◌, ◌<◌, ◌≤◌, arith, refl, ap, sym, ◌∙◌, List, [], ◌∷◌, ◌++◌, length, None, max, true, nat_le, ◌&&◌, ◌^◌, mul-le-mul_left, mul-le-mul_right, ℤ, pos, ◌*ℤ◌, ◌+ℤ◌, ◌≤ℤ◌}
+use Rattle.std.proofs.Common.{◌≡◌, ℕ, zero, suc, ◌+◌, ◌*◌, ◌-◌, ◌≤◌, arith, refl, ap, sym, ◌∙◌, List, [], ◌∷◌, ◌++◌, max, true, nat_le, ◌&&◌, ◌^◌, mul-le-mul_left, mul-le-mul_right, pos, ◌*ℤ◌, ◌+ℤ◌}
 use Rattle.std.proofs.lemmas.Bool.Decides.{nat_tests}
 use Rattle.std.proofs.lemmas.Int.{ints}
-use Rattle.halo_sums.specs.Sums.{int_sum_over, numbers_from, product_over, sum_over}
+use Rattle.halo_sums.specs.Sums.{numbers_from, product_over, sum_over}
 use Rattle.halo_sums.specs.Coefficients.{coefficient}
-use Rattle.halo_sums.proofs.Integers.{pos_mul, mul_assoc}
 use Rattle.halo_sums.proofs.IntSums.{int_sum_over-ext, int_sum_over-pos, int_sum_over-scale}
 use Rattle.halo_sums.proofs.Numbers.{numbers_from-add}
 use Rattle.halo_sums.proofs.Sums.{sum_over-append}
@@ -12,7 +11,6 @@ use Rattle.halo_num.specs.Chance.{EnclosesChance}
 use Rattle.halo_num.specs.Enclosure.{Encloses}
 use Rattle.halo_num.specs.Ends.{Ends, HasWidth, IsWithin, fine}
 use Rattle.halo_num.proofs.Enclosures.{encloses_add, encloses_at}
-use Rattle.halo_status.specs.Pay.{PlainPay}
 use Rattle.halo_model.specs.Basis.{Basis, accumulated, discounted}
 use Rattle.halo_model.specs.Coefficient.{form}
 use Rattle.halo_model.specs.Counts.{greatest, measures_of, width_count}
@@ -148,7 +146,7 @@ module _ (p q : ℕ → ℕ) (last_time : ℕ) (x : PlainLife) where
   whole rule within i sum =
       let all : x.years_left + (suc last_time - x.years_left) ≡ suc last_time = omega arith in
       let ended : present p q last_time x (suc last_time) ≡ present p q last_time x x.years_left
-          = ap (present p q last_time x) (sym all) ∙ present-past p q last_time x x.years_left (suc last_time - x.years_left) rule.ends in
+      = ap (present p q last_time x) (sym all) ∙ present-past p q last_time x x.years_left (suc last_time - x.years_left) rule.ends in
       let one : 1 * present p q last_time x (suc last_time) ≡ present p q last_time x x.years_left = omega (arith, ended) in
       rw (numerator-is p q last_time x rule 1, denominator-is p q last_time x, one) sum.encloses
 

@@ -1,7 +1,6 @@
-use Rattle.std.proofs.Common.{◌≤◌, ℕ, ◌+◌, ◌*◌, ◌-◌, ◌≡◌, arith, pos}
+use Rattle.std.proofs.Common.{◌≤◌, ◌*◌, ◌-◌, ◌≡◌, arith}
 use Rattle.std.proofs.lemmas.Int.{ints}
 use Rattle.halo_interest.specs.Rates.{discount_denominator, discount_numerator, rate_of}
-use Rattle.halo_num.specs.Ends.{IsWithin}
 use Rattle.halo_model.specs.FromTables.{life_of}
 use Rattle.halo_model.specs.Life.{PlainLife}
 use Rattle.halo_model.proofs.FromTables.{life_of-IsLife}

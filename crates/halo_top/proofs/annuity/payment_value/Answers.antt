@@ -1,4 +1,4 @@
-use Rattle.std.proofs.Common.{◌≡◌, ◌≤◌, arith, pos, to_z, w64}
+use Rattle.std.proofs.Common.{◌≡◌, arith, pos, to_z, w64}
 use Rattle.std.proofs.lemmas.Int.{ints}
 use Rattle.halo_num.specs.Ends.{IsSized}
 use Rattle.halo_top.specs.ExactValue.{one_life_basis}
