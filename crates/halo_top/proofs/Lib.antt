@@ -7,6 +7,7 @@ mod InterestLine
 mod LifeLine
 mod OneLifeDue
 mod OneLifeForm
+mod OneStatus
 mod PayLine
 mod Told
 mod Words

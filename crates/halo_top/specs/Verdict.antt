@@ -1,5 +1,5 @@
 -- What a run has to answer: a status and a text, from the words, the files that the shelf tells, and the files of which the count of faults rose.
-use Rattle.std.specs.Prelude.{◌≡◌, ℕ, ◌<◌, ◌≤◌, ◌⊎◌, List, length, Option, IfSome, Result, Ok, Err, ⊤}
+use Rattle.std.specs.Prelude.{◌≡◌, ℕ, ◌<◌, ◌≤◌, ◌⊎◌, List, length, Option, IfSome, Some, Result, Ok, Err, ⊤}
 use Rattle.std.specs.Global.{Vec}
 use Rattle.halo_num.specs.declared.nano.Nano.{Nano}
 use Rattle.halo_records.specs.Records.{records_of}
@@ -73,3 +73,16 @@ abbrev pub CallsFor : List (List ℕ) → Shelved → ℕ → List ℕ → Type 
 CallsFor words shelf status text =
     ((status ≡ 0) × ((tables : List ℕ) × (contract : List ℕ) × AsksValue words tables contract × IsReport shelf tables contract text))
     ⊎ ((r : Refusal) × Refused words shelf r × (status ≡ status_of r) × (text ≡ line_of r))
+
+-- the files of these names are told, and no count of their faults rose
+pub record AreRead (shelf : Shelved) (tables contract : List ℕ) : Type 0 where
+  pub all_tables : List ℕ
+  pub tables_told : shelf.file tables ≡ Some all_tables
+  pub tables_sure : shelf.rose tables → ⊥
+  pub all : List ℕ
+  pub contract_told : shelf.file contract ≡ Some all
+  pub contract_sure : shelf.rose contract → ⊥
+
+-- the files that the words name, if they are a command, are told, and no count of their faults rose
+abbrev pub ReadsAll : List (List ℕ) → Shelved → Type 0
+ReadsAll words shelf = (tables contract : List ℕ) → AsksValue words tables contract → AreRead shelf tables contract

@@ -3,7 +3,7 @@ ghost use Rattle.std.specs.Prelude.{◌≡◌, ◌≢◌, ◌≤◌, ◌⊎◌, 
 ghost use Rattle.halo_io.specs.Counts.{Rose};
 ghost use Rattle.halo_io.specs.Told.{AppendsTold, TookPrefix};
 ghost use Rattle.halo_top.specs.Command.{IsCommand};
-ghost use Rattle.halo_top.specs.Verdict.{AnswersCommand, CallsFor};
+ghost use Rattle.halo_top.specs.Verdict.{AnswersCommand, CallsFor, ReadsAll};
 
 use crate::command::Command;
 use crate::refusal::{Refusal, Stop};
@@ -44,6 +44,8 @@ pub fn run<S: Shelf, K: Sink>(alloc: Global, words: &[String], shelf: &mut S, ou
         × CallsFor (map string_bytes words.now) (record { file = S.file shelf.old; rose = λ n. Rose (S.faults shelf.old n) (S.faults shelf.new n) }) status text
         × TookPrefix (K.taken out.old) (K.taken out.new) text) }
     ensures memory { result ≡ 9 → IsCommand (map string_bytes words.now) × (out.new ≡ out.old) }
+    ensures complete { (status : ℕ) (text : List ℕ) → ReadsAll (map string_bytes words.now) (record { file = S.file shelf.old; rose = λ n. Rose (S.faults shelf.old n) (S.faults shelf.new n) }) → (Rose (K.faults out.old) (K.faults out.new) → ⊥)
+        → CallsFor (map string_bytes words.now) (record { file = S.file shelf.old; rose = λ n. Rose (S.faults shelf.old n) (S.faults shelf.new n) }) status text → (result ≡ status) ⊎ (result ≡ 9) }
     ensures usage { (IsCommand (map string_bytes words.now) → ⊥) → (result ≡ 2) ⊎ (result ≡ 1) }
 {
     let Some(command) = Command::read(words) else {
