@@ -1,15 +1,18 @@
 -- What the tables and the contract that were loaded make of the files as they are told.
-use Rattle.std.proofs.Common.{◌≡◌, ◌≤◌, ℕ, List, Option, None, Some, Result, Ok, Err, length}
+use Rattle.std.proofs.Common.{◌≡◌, ◌≤◌, ℕ, List, Option, None, Some, Result, Ok, Err, length, subst, sym}
 use Rattle.std.specs.Prelude.{IfErr, IfOk, IfSome}
 use Rattle.std.specs.Global.{Vec}
 use Rattle.halo_num.specs.declared.nano.Nano.{Nano}
 use Rattle.halo_records.specs.Records.{records_of}
 use Rattle.halo_table.specs.DecrementTable.{TableFile}
+use Rattle.halo_table.specs.FirstForm.{IsPlain}
 use Rattle.halo_table.specs.Grouping.{tables_of}
 use Rattle.halo_top.specs.Input.{AreTables, IsContract}
 use Rattle.halo_top.specs.OneLife.{Writes}
 use Rattle.halo_top.specs.Report.{report_of}
 use Rattle.halo_top.specs.ExactValue.{EnclosesContract}
+use Rattle.halo_table.proofs.Form.{plain_of_form}
+use Rattle.halo_top.proofs.OneLifeForm.{one-contract}
 use Rattle.halo_top.specs.Verdict.{AnswersFiles, EnclosesFiles, Shelved}
 use Rattle.halo_top.specs.declared.refusal.Stop.{Stop}
 use Rattle.halo_top.specs.declared.refusal.Stop.TheVariants as stop
@@ -30,7 +33,10 @@ pub values : (tables_file contract_file : Option (List ℕ)) (tables : TableFile
     → IfSome tables_file (λ all_tables. IfSome contract_file (λ all. EnclosesFiles (tables_of (records_of all_tables)) all pay total))
 values None contract_file tables bytes contract pay total loaded written same encloses = tt
 values (Some all_tables) None tables bytes contract pay total loaded written same encloses = tt
-values (Some all_tables) (Some all) tables bytes contract pay total loaded written same encloses = rw (← same, ← loaded.1) (contract, written, encloses)
+values (Some all_tables) (Some all) tables bytes contract pay total loaded written same encloses = λ other writes.
+    let plain : IsPlain tables = subst IsPlain (sym loaded.1) (plain_of_form (records_of all_tables) loaded.0.form).1 in
+    let one = one-contract tables bytes plain.1 contract other written (rw (← same, ← loaded.1) at writes) in
+    rw (one, ← loaded.1) encloses
 
 -- the report of two files in order is what they answer, and so is want of memory
 pub answers : (shelf : Shelved) (tables contract : List ℕ) (result : Result (Vec ℕ) Stop) (on : TableFile) (of : OneLife)

@@ -82,15 +82,14 @@ is_line tables text behind_word name behind_name found_table behind_table digits
   row = row;
 }
 
--- only one name stands in the line, and one text behind it
-pub one_rest : (tables : TableFile) (text life table age rest other_life other_table other_age others : List ℕ) (place other_place : ℕ) → IsLifeLine tables text life table age rest place
-    → IsLifeLine tables text other_life other_table other_age others other_place → (other_life ≡ life) × (rest ≡ others)
-one_rest tables text life table age rest other_life other_table other_age others place other_place line other =
+-- only one name, one table and one age stand in the line, and one text behind it
+pub one_line : (tables : TableFile) (text life table age rest other_life other_table other_age others : List ℕ) (place other_place : ℕ) → IsLifeLine tables text life table age rest place
+    → IsLifeLine tables text other_life other_table other_age others other_place → (other_life ≡ life) × (other_table ≡ table) × (other_age ≡ age) × (rest ≡ others)
+one_line tables text life table age rest other_life other_table other_age others place other_place line other =
     let named : FoundName text (life ++ (codes " " ++ (table ++ (codes " " ++ (age ++ (codes "\n" ++ rest)))))) life (table ++ (codes " " ++ (age ++ (codes "\n" ++ rest)))) =
     record { word = in_parts tables text life table age rest place line; name_before = record { whole = refl; is_name = line.life_name } } in
     let tabled : FoundTable text (life ++ (codes " " ++ (table ++ (codes " " ++ (age ++ (codes "\n" ++ rest)))))) life (table ++ (codes " " ++ (age ++ (codes "\n" ++ rest)))) table (age ++ (codes "\n" ++ rest)) =
     record { found = named; table_before = record { whole = refl; is_name = line.table_name } } in
-    let same = same_table tables text _ life _ table (age ++ (codes "\n" ++ rest)) tabled other_life other_table other_age others other_place other in (
-      (same_name tables text _ life _ named other_life other_table other_age others other_place other).0,
-      (one_number 150 (codes "\n") (age ++ (codes "\n" ++ rest)) age rest other_age others line_feed_ends (record { whole = refl; is_number = line.age_number; within = line.age_within }) same.1 other.age_number).1,
-    )
+    let same = same_table tables text _ life _ table (age ++ (codes "\n" ++ rest)) tabled other_life other_table other_age others other_place other in
+    let last = one_number 150 (codes "\n") (age ++ (codes "\n" ++ rest)) age rest other_age others line_feed_ends (record { whole = refl; is_number = line.age_number; within = line.age_within }) same.1 other.age_number in
+    ((same_name tables text _ life _ named other_life other_table other_age others other_place other).0, same.0, last.0, last.1)

@@ -1,5 +1,5 @@
 -- Where the reader of a pay line stops, the text is no such line.
-use Rattle.std.proofs.Common.{◌≡◌, ℕ, ◌^◌, ◌≤◌, List, ◌++◌, append_assoc, ◌∙◌, arith, lit<}
+use Rattle.std.proofs.Common.{◌≡◌, ℕ, ◌^◌, ◌≤◌, List, ◌++◌, append_assoc, ◌∙◌, arith, lit<, refl}
 use Rattle.std.specs.Prelude.{codes}
 use Rattle.halo_text.specs.Number.{IsDigit, number}
 use Rattle.halo_top.specs.Cut.{Ends, NumberBefore}
@@ -45,3 +45,9 @@ is_line text behind_word digits behind_amount life behind_life found after end s
   some = omega arith;
   within = found.amount.within;
 }
+
+-- only one amount stands in the line
+pub one_amount : (text life amount other_amount : List ℕ) → IsPayLine text life amount → IsPayLine text life other_amount → other_amount ≡ amount
+one_amount text life amount other_amount line other =
+    (same_amount text (amount ++ (codes " ad[" ++ (life ++ codes "]\n"))) amount (life ++ codes "]\n") life other_amount
+    (record { word = line.whole ∙ simp append_assoc; amount = record { whole = refl; is_number = line.amount_number; within = line.within } }) other).0

@@ -43,7 +43,7 @@ Refuses shelf tables contract refusal.Usage = ⊥
 
 -- the contract that these bytes write with these tables has its exact values between the ends
 abbrev pub EnclosesFiles : TableFile → List ℕ → Nano → Nano → Type 0
-EnclosesFiles tables bytes pay total = (contract : OneLife) × Writes tables bytes contract × EnclosesContract tables contract pay total
+EnclosesFiles tables bytes pay total = (contract : OneLife) → Writes tables bytes contract → EnclosesContract tables contract pay total
 
 -- nothing is wrong with the files of these names, as far as they are told, and this is a report of two enclosures, which hold the exact values
 pub record IsReport (shelf : Shelved) (tables contract text : List ℕ) : Type 0 where
