@@ -3,16 +3,13 @@ use Rattle.std.proofs.Common.{◌≡◌, ℕ, ◌+◌, ◌*◌, ◌≤◌, List,
 use Rattle.std.proofs.lemmas.Int.{ints}
 use Rattle.std.proofs.lemmas.List.{length-append}
 use Rattle.halo_sums.specs.Sums.{product_over}
+use Rattle.halo_sums.proofs.Sums.{product_over-append}
 use Rattle.halo_num.specs.Ends.{Ends, fine}
 use Rattle.halo_num.specs.Chance.{EnclosesChance, EnclosesProduct}
 
 -- the product over a list and one more
 pub product_over-push : (f : ℕ → ℕ) (xs : List ℕ) (x : ℕ) → product_over (xs ++ x ∷ []) f ≡ product_over xs f * f x
-product_over-push f [] x = omega arith
-product_over-push f (y ∷ xs) x = ap (λ (k : ℕ). f y * k) (product_over-push f xs x) ∙ regroup (f y) (product_over xs f) (f x)
-  where
-    regroup : (a b c : ℕ) → a * (b * c) ≡ a * b * c
-    regroup a b c = omega arith
+product_over-push f xs x = product_over-append xs (x ∷ []) f ∙ omega arith
 
 pub no_chances : (n d : ℕ → ℕ) (w : ℕ) → EnclosesProduct n d w [] (record { lo = pos fine; hi = pos fine })
 no_chances n d w = record {

@@ -21,6 +21,15 @@ pub numbers_from-add : (m n first : ℕ) → numbers_from first (m + n) ≡ numb
 numbers_from-add zero n first = let none : 0 + n ≡ n = omega arith in let here : first + 0 ≡ first = omega arith in rw (none, here)
 numbers_from-add (suc m) n first = let more : suc m + n ≡ suc (m + n) = omega arith in let e : first + suc m ≡ suc first + m = omega arith in rw (more, e) (ap (λ ns. first ∷ ns) (numbers_from-add m n (suc first)))
 
+-- the numbers from 0 on in two runs
+pub numbers_from-split : (m n : ℕ) → numbers_from 0 (m + n) ≡ numbers_from 0 m ++ numbers_from m n
+numbers_from-split m n = let e : 0 + m ≡ m = omega arith in numbers_from-add m n 0 ∙ ap (λ first. numbers_from 0 m ++ numbers_from first n) e
+
+-- 0 at each of the numbers, 0 in sum
+pub sum_over-numbers_none : (count first : ℕ) (f : ℕ → ℕ) → ((i : ℕ) → first ≤ i → f i ≡ 0) → sum_over (numbers_from first count) f ≡ 0
+sum_over-numbers_none zero first f h = refl
+sum_over-numbers_none (suc count) first f h = omega (arith, h first (omega arith), sum_over-numbers_none count (suc first) f (λ i from. h i (omega arith)))
+
 nat_eq-above : (i k : ℕ) → k < i → nat_eq i k ≡ false
 nat_eq-above i k h = grind (arith, nat_tests)
 

@@ -2,7 +2,7 @@
 use Rattle.std.proofs.Common.{◌≡◌, ℕ, ◌+◌, ◌*◌, arith, refl, ap, ◌∙◌, List, [], ◌∷◌, ◌++◌, length, map}
 use Rattle.std.proofs.Math.Path.{fun_ext}
 use Rattle.std.specs.List.{flat_map}
-use Rattle.halo_sums.specs.Sums.{sum_over}
+use Rattle.halo_sums.specs.Sums.{product_over, sum_over}
 
 module _ {X : Type 0} where
   pub sum_over-ext : (xs : List X) (f g : X → ℕ) → ((x : X) → f x ≡ g x) → sum_over xs f ≡ sum_over xs g
@@ -23,6 +23,11 @@ module _ {X : Type 0} where
   pub sum_over-scale_right : (xs : List X) (c : ℕ) (f : X → ℕ) → sum_over xs (λ x. f x * c) ≡ sum_over xs f * c
   sum_over-scale_right [] c f = omega arith
   sum_over-scale_right (x ∷ xs) c f = omega (arith, sum_over-scale_right xs c f)
+
+-- the product over two lists, one behind the other
+pub product_over-append : {X : Type 0} → (xs ys : List X) (f : X → ℕ) → product_over (xs ++ ys) f ≡ product_over xs f * product_over ys f
+product_over-append [] ys f = omega arith
+product_over-append (x ∷ xs) ys f = rw (product_over-append xs ys f) (omega arith)
 
 module _ {X Y : Type 0} where
   pub sum_over-map : (h : X → Y) (xs : List X) (f : Y → ℕ) → sum_over (map h xs) f ≡ sum_over xs (λ x. f (h x))

@@ -5,8 +5,8 @@ use Rattle.std.proofs.lemmas.Int.{ints}
 use Rattle.halo_sums.specs.Sums.{numbers_from, product_over, sum_over}
 use Rattle.halo_sums.specs.Coefficients.{coefficient}
 use Rattle.halo_sums.proofs.IntSums.{int_sum_over-ext, int_sum_over-pos, int_sum_over-scale}
-use Rattle.halo_sums.proofs.Numbers.{numbers_from-add}
-use Rattle.halo_sums.proofs.Sums.{sum_over-append}
+use Rattle.halo_sums.proofs.Numbers.{numbers_from-split, sum_over-numbers_none}
+use Rattle.halo_sums.proofs.Sums.{product_over-append, sum_over-append}
 use Rattle.halo_num.specs.Chance.{EnclosesChance}
 use Rattle.halo_num.specs.Enclosure.{Encloses}
 use Rattle.halo_num.specs.Ends.{Ends, HasWidth, IsWithin, fine}
@@ -24,20 +24,6 @@ use Rattle.halo_model.specs.Premium.{all_lives}
 use Rattle.halo_model.specs.Value.{denominator, numerator}
 use Rattle.halo_model.proofs.Annuities.{due-by-parts}
 use Rattle.halo_top.specs.ExactValue.{due_pay}
-
--- the product over two lists, one behind the other
-product_over-append : (xs ys : List ℕ) (f : ℕ → ℕ) → product_over (xs ++ ys) f ≡ product_over xs f * product_over ys f
-product_over-append [] ys f = omega arith
-product_over-append (x ∷ xs) ys f = rw (product_over-append xs ys f) (omega arith)
-
--- the numbers from 0 on in two runs
-numbers-split : (m n : ℕ) → numbers_from 0 (m + n) ≡ numbers_from 0 m ++ numbers_from m n
-numbers-split m n = let e : 0 + m ≡ m = omega arith in numbers_from-add m n 0 ∙ ap (λ first. numbers_from 0 m ++ numbers_from first n) e
-
--- a sum of nothing but 0
-sum_over-zeros : (count first : ℕ) (f : ℕ → ℕ) → ((i : ℕ) → first ≤ i → f i ≡ 0) → sum_over (numbers_from first count) f ≡ 0
-sum_over-zeros zero first f h = refl
-sum_over-zeros (suc count) first f h = omega (arith, h first (omega arith), sum_over-zeros count (suc first) f (λ i from. h i (omega arith)))
 
 greatest-from : (least : ℕ) (ns : List ℕ) → least ≤ greatest least ns
 greatest-from least [] = omega arith
@@ -87,13 +73,13 @@ module _ (p q : ℕ → ℕ) (last_time : ℕ) (x : PlainLife) where
   -- nothing is paid once the life's table has ended
   present-past : (years more : ℕ) → ((t : ℕ) → years ≤ t → x.survivors t ≡ 0) → present (years + more) ≡ present years
   present-past years more ended =
-      ap (λ ts. sum_over ts yearly) (numbers-split years more)
+      ap (λ ts. sum_over ts yearly) (numbers_from-split years more)
       ∙ sum_over-append (numbers_from 0 years) (numbers_from years more) yearly
-      ∙ omega (arith, sum_over-zeros more years yearly (λ t from. rw (ended t from) (omega arith)))
+      ∙ omega (arith, sum_over-numbers_none more years yearly (λ t from. rw (ended t from) (omega arith)))
 
   present-next : (years : ℕ) → present (years + 1) ≡ present years + yearly years
   present-next years =
-      ap (λ ts. sum_over ts yearly) (numbers-split years 1)
+      ap (λ ts. sum_over ts yearly) (numbers_from-split years 1)
       ∙ sum_over-append (numbers_from 0 years) (numbers_from years 1) yearly
       ∙ omega arith
 
@@ -102,7 +88,7 @@ module _ (p q : ℕ → ℕ) (last_time : ℕ) (x : PlainLife) where
   accumulated-split t within =
       let years : last_time - 0 ≡ t + (last_time - t) = omega arith in
       ap (λ n. product_over (numbers_from 0 n) (λ k. p k + q k)) years
-      ∙ ap (λ ts. product_over ts (λ k. p k + q k)) (numbers-split t (last_time - t))
+      ∙ ap (λ ts. product_over ts (λ k. p k + q k)) (numbers_from-split t (last_time - t))
       ∙ product_over-append (numbers_from 0 t) (numbers_from t (last_time - t)) (λ k. p k + q k)
 
   discounted-is : (t : ℕ) → discounted basis 0 t ≡ product_over (numbers_from 0 t) q * accumulated basis t

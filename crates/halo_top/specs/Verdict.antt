@@ -41,7 +41,7 @@ Refuses shelf tables contract (refusal.NotBuilt file.Contract) = IfSome (shelf.f
     × IfSome (shelf.file contract) (λ all. (length all ≤ limit_of file.Contract) × (HasOneLifeForm (tables_of (records_of all_tables)) all → ⊥)))
 Refuses shelf tables contract refusal.Usage = ⊥
 
--- the contract that these bytes write with these tables has its exact values between the ends
+-- each contract that these bytes write with these tables has its exact values between the ends; they write no two
 abbrev pub EnclosesFiles : TableFile → List ℕ → Nano → Nano → Type 0
 EnclosesFiles tables bytes pay total = (contract : OneLife) → Writes tables bytes contract → EnclosesContract tables contract pay total
 
