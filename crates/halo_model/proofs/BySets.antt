@@ -10,7 +10,7 @@ use Rattle.halo_model.specs.Life.{AreLives, PlainLife, after_first}
 use Rattle.halo_model.specs.There.{there_at}
 use Rattle.halo_model.specs.Expectation.{exactly_there, expected}
 use Rattle.halo_model.proofs.Expected.{expected-cons}
-use Rattle.halo_model.proofs.OneLife.{one-life}
+use Rattle.halo_model.proofs.OneWay.{one-life}
 
 -- two sums over the sets of n lives, as one over the sets of one life more
 gather : (n : ℕ) (with without : ℤ) (rest f joined : List Bool → ℤ)

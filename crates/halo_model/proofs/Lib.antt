@@ -2,7 +2,7 @@ pub mod WorkedRows
 pub mod FromTables
 pub mod Weights
 pub mod Expected
-pub mod OneLife
+pub mod OneWay
 pub mod BySets
 pub mod Readings
 pub mod LifeReadings
@@ -19,3 +19,5 @@ pub mod Insurances
 pub mod Outside
 pub mod HorizonIsLeast
 pub mod WorkedForms
+pub mod DueOnOneLife
+pub mod Reversion

@@ -10,7 +10,7 @@ use Rattle.halo_model.specs.Outcome.{Exit, exit_weight, ways}
 use Rattle.halo_model.specs.There.{there}
 use Rattle.halo_model.specs.Expectation.{leaves_in}
 use Rattle.halo_model.proofs.Expected.{int_sum_over-ways}
-use Rattle.halo_model.proofs.OneLife.{one-life}
+use Rattle.halo_model.proofs.OneWay.{one-life}
 use Rattle.halo_model.proofs.Readings.{Reading, reading_sum}
 
 -- in the set where it is there at time t, else outside

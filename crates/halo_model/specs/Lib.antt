@@ -22,3 +22,4 @@ pub mod Part
 pub mod PartLaws
 pub mod Widths
 pub mod WorkedForms
+pub mod OneLife

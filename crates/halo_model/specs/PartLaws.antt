@@ -1,6 +1,7 @@
 -- The parts of a pay add up to its value.
-use Rattle.std.specs.Prelude.{◌≡◌, ⊤, ℕ, suc, ◌≤◌, Bool, List, [], ◌∷◌, length, None, pos, ◌+ℤ◌, ◌*ℤ◌}
+use Rattle.std.specs.Prelude.{◌≡◌, ◌≢◌, ⊤, ℕ, suc, ◌+◌, ◌≤◌, Bool, List, [], ◌∷◌, length, None, pos, ◌+ℤ◌, ◌*ℤ◌}
 use Rattle.halo_sums.specs.Sums.{int_sum_over, numbers_from}
+use Rattle.halo_status.specs.Tree.{Tree, after, joint, more, none}
 use Rattle.halo_status.specs.Pay.{PlainPay}
 use Rattle.halo_status.specs.declared.pay.Kind.TheVariants.{Insurance, Due, Immediate}
 use Rattle.halo_model.specs.Life.{AreLives, PlainLife}
@@ -30,3 +31,8 @@ InsuranceByParts = (b : Basis) → EndBy b.last_time b.lives → (pay : PlainPay
     → pos (numerator b pay T S) ≡ int_sum_over (taken b) (λ order.
     int_sum_over (numbers_from 0 (length b.lives)) (leaving_part b pay (rank_in order) T S)
     +ℤ int_sum_over (terms_of b pay) (end_part b pay (rank_in order) T S))
+
+-- a reversion: what an annuity pays on w after u has failed, and what it pays on u and w together, is what it pays on w
+abbrev pub ReversionAddsUp : Type 0
+ReversionAddsUp = (b : Basis) (pay : PlainPay) → pay.kind ≢ Insurance → (u w : Tree) (T : ℕ) (S : ℕ → Bool)
+    → numerator b (record pay { body = after u w }) T S + numerator b (record pay { body = joint (more u (more w none)) }) T S ≡ numerator b (record pay { body = w }) T S

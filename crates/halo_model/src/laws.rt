@@ -2,7 +2,8 @@
 ghost use Rattle.halo_model.specs.ChanceLaws.{ChanceOnEnd, ChanceOnLeaving, NoChanceOnEndOutside, NoChanceOnLeavingOutside, NoChanceOnOtherEnd, NoChanceOnOtherLeaving};
 ghost use Rattle.halo_model.specs.Horizon.{HorizonIsLeast};
 ghost use Rattle.halo_model.specs.Laws.{ExpectedByCoefficients, ExpectedBySets, LivesOfTablesKeepTheRule, WeightsAddUp};
-ghost use Rattle.halo_model.specs.PartLaws.{DueByParts, ImmediateByParts, InsuranceByParts};
+ghost use Rattle.halo_model.specs.OneLife.{DueOnOneLife};
+ghost use Rattle.halo_model.specs.PartLaws.{DueByParts, ImmediateByParts, InsuranceByParts, ReversionAddsUp};
 
 /// Lives that have rows in the tables of a file without fault keep the rule of a decrement table:
 /// the next survivors are the survivors less the leavers, and after the last year nobody is alive.
@@ -46,6 +47,17 @@ pub fn values_by_parts()
     ensures due { DueByParts }
     ensures immediate { ImmediateByParts }
     ensures insurance { InsuranceByParts }
+{}
+
+/// The annuity-due on one life is what the books write: the sum of the discounted payments times
+/// the survivors at their times, over the survivors at the start.
+pub fn due_on_one_life()
+    ensures { DueOnOneLife }
+{}
+
+/// An annuity on w after u and one on u and w together are worth what the annuity on w is worth.
+pub fn reversion_adds_up()
+    ensures { ReversionAddsUp }
 {}
 
 /// The horizon of a status is the least number of years that is at least 1, as many as each life
