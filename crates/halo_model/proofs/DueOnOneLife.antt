@@ -5,7 +5,7 @@ use Rattle.std.proofs.lemmas.Bool.Decides.{nat_tests}
 use Rattle.std.proofs.lemmas.Int.{ints}
 use Rattle.halo_sums.specs.Sums.{int_sum_over, numbers_from, sum_over}
 use Rattle.halo_sums.specs.Coefficients.{coefficient}
-use Rattle.halo_sums.proofs.Integers.{pos_mul}
+use Rattle.halo_sums.proofs.Integers.{pos_injective, pos_mul}
 use Rattle.halo_sums.proofs.IntSums.{int_sum_over-ext, int_sum_over-pos}
 use Rattle.halo_status.specs.Tree.{life}
 use Rattle.halo_status.specs.Pay.{PlainPay}
@@ -44,9 +44,6 @@ due-part b x one pay plain body t = rw (from-start t, and-true (nat_le pay.defer
     each true = sym (pos_mul (payment pay (t - pay.defer) * discounted b 0 t) (x.survivors t))
     each false = refl
 
-from-pos : (m n : ℕ) → pos m ≡ pos n → m ≡ n
-from-pos m n e = omega (arith, ints, e)
-
 denominator-of-one : (b : Basis) (x : PlainLife) → b.lives ≡ x ∷ [] → denominator b 0 all_lives ≡ x.survivors 0 * accumulated b 0
 unfolding denominator
 denominator-of-one b x one = rw (one-order b x one, one) (omega arith)
@@ -64,7 +61,7 @@ due-on-one-life b x one rule pay kind plain body = record { num = num; den = den
     paid t = cond (nat_le pay.defer t) (payment pay (t - pay.defer) * discounted b 0 t * x.survivors t) 0
 
     num : numerator b pay 0 all_lives ≡ sum_over times paid
-    num = from-pos _ _ (due-by-parts b rules pay kind plain 0 all_lives
+    num = pos_injective _ _ (due-by-parts b rules pay kind plain 0 all_lives
         ∙ ap (λ n. pos n *ℤ int_sum_over times (due_part b pay 0 all_lives)) (one-order b x one)
         ∙ ap (λ z. pos 1 *ℤ z) (int_sum_over-ext times _ _ (due-part b x one pay plain body) ∙ int_sum_over-pos times paid)
         ∙ unit (pos (sum_over times paid)))

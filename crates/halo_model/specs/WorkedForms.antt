@@ -8,7 +8,7 @@ use Rattle.halo_model.specs.Order.{declared_order}
 use Rattle.halo_model.specs.Basis.{Basis}
 use Rattle.halo_model.specs.Counts.{measures_of, width_count}
 use Rattle.halo_model.specs.Horizon.{horizon}
-use Rattle.halo_model.specs.Segment.{coefficients_at}
+use Rattle.halo_model.specs.Segment.{AreSegments, Run, coefficients_at}
 use Rattle.halo_model.specs.SmallBasis.{IsWorth, both, marked, plain}
 use Rattle.halo_model.specs.WorkedRows.{two_years, x, y, z}
 use Rattle.halo_model.specs.Widths.{printed_pay_width}
@@ -25,6 +25,16 @@ pub record FormRows : Type 0 where
   pub immediate_years_on : coefficients_at (plain Immediate (joint (both x two_years))) 2 2 ≡ pos 0 ∷ pos 0 ∷ pos 1 ∷ pos 0 ∷ []
   pub immediate_years_over : coefficients_at (plain Immediate (joint (both x two_years))) 2 3 ≡ pos 0 ∷ pos 0 ∷ pos 0 ∷ pos 0 ∷ []
   pub x_second : coefficients_at (marked 0 2 (joint (both x y))) 2 0 ≡ pos 0 ∷ pos 0 ∷ pos 1 ∷ negsuc 0 ∷ []
+
+-- a run of times
+abbrev pub from_to : ℕ → ℕ → Run
+from_to first last = record { first = first; last = last }
+
+-- the segments on two lives through three years
+pub record SegmentRows : Type 0 where
+  pub due_years : AreSegments (plain Due (joint (both x two_years))) 2 3 (from_to 0 1 ∷ from_to 2 2 ∷ [])
+  pub immediate_years : AreSegments (plain Immediate (joint (both x two_years))) 2 3 (from_to 1 2 ∷ from_to 3 3 ∷ [])
+  pub x_second : AreSegments (marked 0 2 (joint (both x y))) 2 3 (from_to 0 2 ∷ [])
 
 -- a life of whom one in n leaves each year
 abbrev pub even_leaver : ℕ → PlainLife

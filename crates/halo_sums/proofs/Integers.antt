@@ -98,3 +98,6 @@ pos_mul m n = omega (arith, ints)
 
 pub pos_add : (m n : ℕ) → pos (m + n) ≡ pos m +ℤ pos n
 pos_add m n = omega (arith, ints)
+
+pub pos_injective : (m n : ℕ) → pos m ≡ pos n → m ≡ n
+pos_injective m n e = omega (arith, ints, e)
