@@ -21,3 +21,5 @@ pub mod HorizonIsLeast
 pub mod WorkedForms
 pub mod DueOnOneLife
 pub mod Reversion
+pub mod Since
+pub mod Conditional

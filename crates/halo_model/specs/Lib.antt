@@ -23,3 +23,4 @@ pub mod PartLaws
 pub mod Widths
 pub mod WorkedForms
 pub mod OneLife
+pub mod ReserveLaw

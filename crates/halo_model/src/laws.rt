@@ -4,6 +4,7 @@ ghost use Rattle.halo_model.specs.Horizon.{HorizonIsLeast};
 ghost use Rattle.halo_model.specs.Laws.{ExpectedByCoefficients, ExpectedBySets, LivesOfTablesKeepTheRule, WeightsAddUp};
 ghost use Rattle.halo_model.specs.OneLife.{DueOnOneLife};
 ghost use Rattle.halo_model.specs.PartLaws.{DueByParts, ImmediateByParts, InsuranceByParts, ReversionAddsUp};
+ghost use Rattle.halo_model.specs.ReserveLaw.{ReserveIsConditional};
 
 /// Lives that have rows in the tables of a file without fault keep the rule of a decrement table:
 /// the next survivors are the survivors less the leavers, and after the last year nobody is alive.
@@ -58,6 +59,13 @@ pub fn due_on_one_life()
 /// An annuity on w after u and one on u and w together are worth what the annuity on w is worth.
 pub fn reversion_adds_up()
     ensures { ReversionAddsUp }
+{}
+
+/// A reserve is a conditional expectation: over the outcomes from the start in which exactly the
+/// lives of a set are there at a time, the mean of the value then of what is still to be paid is
+/// the value at that time with these lives alive.
+pub fn reserve_is_conditional()
+    ensures { ReserveIsConditional }
 {}
 
 /// The horizon of a status is the least number of years that is at least 1, as many as each life
