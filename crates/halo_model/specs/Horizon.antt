@@ -36,7 +36,8 @@ life_at lives i = get_or lives i (record { table = 0; age = 0 })
 
 -- each life that a status names is one of some lives, and has a row at its age
 abbrev pub HasRows : TableFile → List Life → Tree → Type 0
-HasRows file lives body = (i : ℕ) → IsTrue (names_life i body) → (i < length lives) × HasRow file (life_at lives i).table (life_at lives i).age
+HasRows file lives body = (i : ℕ) → IsTrue (names_life i body)
+    → (i < length lives) × HasRow file (life_at lives i).table (life_at lives i).age
 
 -- each term of a status has at most 200 years
 abbrev pub HasShortTerms : Tree → Type 0
@@ -44,7 +45,8 @@ HasShortTerms body = (n : ℕ) → IsTrue (names_term n body) → n ≤ 200
 
 -- the same of the members of a status
 abbrev pub HaveRows : TableFile → List Life → Trees → Type 0
-HaveRows file lives members = (i : ℕ) → IsTrue (any_names_life i members) → (i < length lives) × HasRow file (life_at lives i).table (life_at lives i).age
+HaveRows file lives members = (i : ℕ) → IsTrue (any_names_life i members)
+    → (i < length lives) × HasRow file (life_at lives i).table (life_at lives i).age
 
 abbrev pub HaveShortTerms : Trees → Type 0
 HaveShortTerms members = (n : ℕ) → IsTrue (any_names_term n members) → n ≤ 200

@@ -13,8 +13,10 @@ use Rattle.halo_model.specs.Value.{denominator, numerator}
 -- The annuity-due on the one life x of a contract: the sum over the times of the payment, discounted, times the survivors,
 -- over the survivors at the start.
 pub record IsDueOnOneLife (b : Basis) (x : PlainLife) (pay : PlainPay) : Type 0 where
-  pub num : numerator b pay 0 all_lives ≡ sum_over (numbers_from 0 (suc b.last_time)) (λ t. cond (nat_le pay.defer t) (payment pay (t - pay.defer) * discounted b 0 t * x.survivors t) 0)
+  pub num : numerator b pay 0 all_lives
+      ≡ sum_over (numbers_from 0 (suc b.last_time)) (λ t. cond (nat_le pay.defer t) (payment pay (t - pay.defer) * discounted b 0 t * x.survivors t) 0)
   pub den : denominator b 0 all_lives ≡ x.survivors 0 * accumulated b 0
 
 abbrev pub DueOnOneLife : Type 0
-DueOnOneLife = (b : Basis) (x : PlainLife) → b.lives ≡ x ∷ [] → IsLife x → (pay : PlainPay) → pay.kind ≡ Due → pay.mark ≡ None → pay.body ≡ life 0 → IsDueOnOneLife b x pay
+DueOnOneLife = (b : Basis) (x : PlainLife) → b.lives ≡ x ∷ [] → IsLife x
+    → (pay : PlainPay) → pay.kind ≡ Due → pay.mark ≡ None → pay.body ≡ life 0 → IsDueOnOneLife b x pay

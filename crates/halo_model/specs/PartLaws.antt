@@ -35,4 +35,5 @@ InsuranceByParts = (b : Basis) → EndBy b.last_time b.lives → (pay : PlainPay
 -- a reversion: what an annuity pays on w after u has failed, and what it pays on u and w together, is what it pays on w
 abbrev pub ReversionAddsUp : Type 0
 ReversionAddsUp = (b : Basis) (pay : PlainPay) → pay.kind ≢ Insurance → (u w : Tree) (T : ℕ) (S : ℕ → Bool)
-    → numerator b (record pay { body = after u w }) T S + numerator b (record pay { body = joint (more u (more w none)) }) T S ≡ numerator b (record pay { body = w }) T S
+    → numerator b (record pay { body = after u w }) T S + numerator b (record pay { body = joint (more u (more w none)) }) T S
+    ≡ numerator b (record pay { body = w }) T S

@@ -12,19 +12,24 @@ use Rattle.halo_model.specs.Payment.{falls_on, payment, pays_due, pays_immediate
 
 -- the value at T of what an annuity-due pays on an outcome
 abbrev pub due_value : Basis → PlainPay → ℕ → Outcome → ℕ
-due_value b pay T o = sum_over (numbers_from 0 (suc b.last_time)) (λ t. cond (pays_due pay T o t) (payment pay (t - pay.defer) * discounted b T t) 0)
+due_value b pay T o =
+    sum_over (numbers_from 0 (suc b.last_time)) (λ t. cond (pays_due pay T o t) (payment pay (t - pay.defer) * discounted b T t) 0)
 
 -- of what an annuity-immediate pays
 abbrev pub immediate_value : Basis → PlainPay → ℕ → Outcome → ℕ
-immediate_value b pay T o = sum_over (numbers_from 1 b.last_time) (λ t. cond (pays_immediate pay T o t) (payment pay (t - pay.defer - 1) * discounted b T t) 0)
+immediate_value b pay T o =
+    sum_over (numbers_from 1 b.last_time) (λ t. cond (pays_immediate pay T o t) (payment pay (t - pay.defer - 1) * discounted b T t) 0)
 
 -- of what an insurance pays for an event, at the end of its year
 abbrev pub event_value : Basis → PlainPay → (ℕ → ℕ) → ℕ → Outcome → Event → ℕ
-event_value b pay rank T o event = cond (falls_on pay rank T o event) (payment pay (year_of event - pay.defer) * discounted b T (suc (year_of event))) 0
+event_value b pay rank T o event =
+    cond (falls_on pay rank T o event) (payment pay (year_of event - pay.defer) * discounted b T (suc (year_of event))) 0
 
 -- and of what it pays for all events
 abbrev pub insurance_value : Basis → PlainPay → (ℕ → ℕ) → ℕ → Outcome → ℕ
-insurance_value b pay rank T o = sum_over (leavings 0 o) (event_value b pay rank T o) + sum_over (term_ends b.last_time pay.body) (event_value b pay rank T o)
+insurance_value b pay rank T o =
+    sum_over (leavings 0 o) (event_value b pay rank T o)
+    + sum_over (term_ends b.last_time pay.body) (event_value b pay rank T o)
 
 -- the value of an outcome by the kind of pay, where the lives of one year leave by their ranks
 abbrev pub value_by_kind : Kind → Basis → PlainPay → (ℕ → ℕ) → ℕ → Outcome → ℕ

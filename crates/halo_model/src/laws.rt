@@ -1,5 +1,7 @@
 // Laws of the definitions: functions that do nothing, whose contracts are the laws.
-ghost use Rattle.halo_model.specs.ChanceLaws.{ChanceOnEnd, ChanceOnLeaving, NoChanceOnEndOutside, NoChanceOnLeavingOutside, NoChanceOnOtherEnd, NoChanceOnOtherLeaving};
+ghost use Rattle.halo_model.specs.ChanceLaws.{ChanceOnEnd, ChanceOnLeaving};
+ghost use Rattle.halo_model.specs.ChanceLaws.{NoChanceOnEndOutside, NoChanceOnLeavingOutside};
+ghost use Rattle.halo_model.specs.ChanceLaws.{NoChanceOnOtherEnd, NoChanceOnOtherLeaving};
 ghost use Rattle.halo_model.specs.Horizon.{HorizonIsLeast};
 ghost use Rattle.halo_model.specs.Laws.{ExpectedByCoefficients, ExpectedBySets, LivesOfTablesKeepTheRule, WeightsAddUp};
 ghost use Rattle.halo_model.specs.OneLife.{DueOnOneLife};

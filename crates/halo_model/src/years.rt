@@ -3,7 +3,8 @@ ghost use Rattle.std.specs.Prelude.{◌≡◌, ◌<◌, ◌≤◌, length};
 ghost use Rattle.halo_status.specs.StatusTree.{tree_of, trees_in};
 ghost use Rattle.halo_table.specs.DecrementTable.{last_age_of};
 ghost use Rattle.halo_model.specs.FromTables.{HasRow, life_of, lives_of};
-ghost use Rattle.halo_model.specs.Horizon.{HasRows, HasShortTerms, HaveRows, HaveShortTerms, horizon, longest, longest_of, years_left_of};
+ghost use Rattle.halo_model.specs.Horizon.{HasRows, HasShortTerms, HaveRows, HaveShortTerms};
+ghost use Rattle.halo_model.specs.Horizon.{horizon, longest, longest_of, years_left_of};
 
 use halo_status::{Members, Status};
 use halo_table::{Life, Tables};
@@ -37,7 +38,8 @@ fn years_left(tables: &Tables, life: Life) -> u16
 fn longest(body: &Status, tables: &Tables, lives: &[Life]) -> u16
     requires rows { HasRows tables.now lives.now (tree_of body.now) }
     requires terms { HasShortTerms (tree_of body.now) }
-    ensures years { result ≡ longest (years_left_of (lives_of tables.now lives.now)) (tree_of body.now) }
+    ensures years { result
+        ≡ longest (years_left_of (lives_of tables.now lives.now)) (tree_of body.now) }
     ensures few { result ≤ 200 }
 {
     match body {
@@ -58,7 +60,8 @@ fn longest(body: &Status, tables: &Tables, lives: &[Life]) -> u16
 fn longest_of(members: &Members, tables: &Tables, lives: &[Life]) -> u16
     requires rows { HaveRows tables.now lives.now (trees_in members.now) }
     requires terms { HaveShortTerms (trees_in members.now) }
-    ensures years { result ≡ longest_of (years_left_of (lives_of tables.now lives.now)) (trees_in members.now) }
+    ensures years { result
+        ≡ longest_of (years_left_of (lives_of tables.now lives.now)) (trees_in members.now) }
     ensures few { result ≤ 200 }
 {
     let mut years = 0;
