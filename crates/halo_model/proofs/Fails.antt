@@ -27,7 +27,7 @@ count_true-cons : (b : Bool) (bs : List Bool) → count_true (b ∷ bs) ≡ one_
 count_true-cons true bs = omega arith
 count_true-cons false bs = omega arith
 
-count_true-most : (bs : List Bool) → count_true bs ≤ length bs
+pub count_true-most : (bs : List Bool) → count_true bs ≤ length bs
 count_true-most [] = omega arith
 count_true-most (true ∷ bs) = omega (arith, count_true-most bs)
 count_true-most (false ∷ bs) = omega (arith, count_true-most bs)
@@ -93,7 +93,7 @@ module _ (alive still_alive on still_on : ℕ → Bool) where
   others-stay (more s ms) zero within h = all-stay ms (λ q t at. h (suc q) t (λ e. absurd (omega arith)) at)
   others-stay (more s ms) (suc p) within h = (h 0 s (λ e. absurd (omega arith)) refl, others-stay ms p (omega arith) (λ q t other at. h (suc q) t (λ e. other (omega arith)) at))
 
-  length-each_exists : (ms : Trees) → length (each_exists alive on ms) ≡ member_count ms
+  pub length-each_exists : (ms : Trees) → length (each_exists alive on ms) ≡ member_count ms
   length-each_exists none = refl
   length-each_exists (more s ms) = omega (arith, length-each_exists ms)
 

@@ -23,3 +23,4 @@ pub mod DueOnOneLife
 pub mod Reversion
 pub mod Since
 pub mod Conditional
+pub mod FirstMarks

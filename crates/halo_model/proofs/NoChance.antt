@@ -52,22 +52,24 @@ not-paid : (pay : PlainPay) (rank : ℕ → ℕ) (T : ℕ) (o : Outcome) (event 
     → falls_on pay rank T o event ≡ false
 not-paid pay rank T o event h = rw (stays (lives_before rank o event) (lives_after rank o event) (terms_before event) (terms_after event) pay.mark pay.body h) (and-false _)
 
+-- a status that does not name the life that leaves exists after it as before
+pub unnamed-at-leaving : (rank : ℕ → ℕ) (o : Outcome) (a : ℕ) (x : Exit) (s : Tree) → names_life a s ≡ false → exists (lives_before rank o (leaves a x)) (terms_before (leaves a x)) s ≡ exists (lives_after rank o (leaves a x)) (terms_after (leaves a x)) s
+unnamed-at-leaving rank o a x s silent = agree _ _ _ _ s
+    (λ i e. let q : nat_eq a i ≡ false = other-than a i (λ same. let f : names_life a s ≡ true = rw (← same) e in cc) in rw q (sym (and-true (lives_before rank o (leaves a x) i))))
+    (λ n e. sym (and-true (terms_before (leaves a x) n)))
+
+-- nor does one that does not name the term that ends change
+pub unnamed-at-end : (rank : ℕ → ℕ) (o : Outcome) (n : ℕ) (s : Tree) → names_term n s ≡ false → exists (lives_before rank o (ends n)) (terms_before (ends n)) s ≡ exists (lives_after rank o (ends n)) (terms_after (ends n)) s
+unnamed-at-end rank o n s silent = agree _ _ _ _ s
+    (λ i e. sym (and-true (lives_before rank o (ends n) i)))
+    (λ m e. let q : nat_eq n m ≡ false = other-than n m (λ same. let f : names_term n s ≡ true = rw (← same) e in cc) in rw q (sym (and-true (terms_before (ends n) m))))
+
 no-leaving : (pay : PlainPay) (rank : ℕ → ℕ) (T a k : ℕ) → IsMarkedAnd pay.mark pay.body (λ s. names_life a s ≡ false) → (o : Outcome) (way : Option Exit) → indicator (paid_at_exit pay rank T a k o way) ≡ pos 0
 no-leaving pay rank T a k silent o None = refl
-no-leaving pay rank T a k silent o (Some x) = rw (not-paid pay rank T o (leaves a x) (IsMarkedAnd-map _ _ alike pay.mark pay.body silent), and-false (nat_eq x.year k))
-  where
-    alike : (s : Tree) → names_life a s ≡ false → exists (lives_before rank o (leaves a x)) (terms_before (leaves a x)) s ≡ exists (lives_after rank o (leaves a x)) (terms_after (leaves a x)) s
-    alike s silent = agree _ _ _ _ s
-        (λ i e. let q : nat_eq a i ≡ false = other-than a i (λ same. let f : names_life a s ≡ true = rw (← same) e in cc) in rw q (sym (and-true (lives_before rank o (leaves a x) i))))
-        (λ n e. sym (and-true (terms_before (leaves a x) n)))
+no-leaving pay rank T a k silent o (Some x) = rw (not-paid pay rank T o (leaves a x) (IsMarkedAnd-map _ _ (unnamed-at-leaving rank o a x) pay.mark pay.body silent), and-false (nat_eq x.year k))
 
 no-end : (pay : PlainPay) (rank : ℕ → ℕ) (T n : ℕ) → IsMarkedAnd pay.mark pay.body (λ s. names_term n s ≡ false) → (o : Outcome) → indicator (falls_on pay rank T o (ends n)) ≡ pos 0
-no-end pay rank T n silent o = rw (not-paid pay rank T o (ends n) (IsMarkedAnd-map _ _ alike pay.mark pay.body silent))
-  where
-    alike : (s : Tree) → names_term n s ≡ false → exists (lives_before rank o (ends n)) (terms_before (ends n)) s ≡ exists (lives_after rank o (ends n)) (terms_after (ends n)) s
-    alike s silent = agree _ _ _ _ s
-        (λ i e. sym (and-true (lives_before rank o (ends n) i)))
-        (λ m e. let q : nat_eq n m ≡ false = other-than n m (λ same. let f : names_term n s ≡ true = rw (← same) e in cc) in rw q (sym (and-true (terms_before (ends n) m))))
+no-end pay rank T n silent o = rw (not-paid pay rank T o (ends n) (IsMarkedAnd-map _ _ (unnamed-at-end rank o n) pay.mark pay.body silent))
 
 pub no-chance-on-other-leaving : NoChanceOnOtherLeaving
 no-chance-on-other-leaving pay rank T a k silent S lives =

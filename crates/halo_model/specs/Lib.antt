@@ -24,3 +24,4 @@ pub mod Widths
 pub mod WorkedForms
 pub mod OneLife
 pub mod ReserveLaw
+pub mod MarkLaws

@@ -4,6 +4,7 @@ ghost use Rattle.halo_model.specs.ChanceLaws.{NoChanceOnEndOutside, NoChanceOnLe
 ghost use Rattle.halo_model.specs.ChanceLaws.{NoChanceOnOtherEnd, NoChanceOnOtherLeaving};
 ghost use Rattle.halo_model.specs.Horizon.{HorizonIsLeast};
 ghost use Rattle.halo_model.specs.Laws.{ExpectedByCoefficients, ExpectedBySets, LivesOfTablesKeepTheRule, WeightsAddUp};
+ghost use Rattle.halo_model.specs.MarkLaws.{FirstMarksAddUp};
 ghost use Rattle.halo_model.specs.OneLife.{DueOnOneLife};
 ghost use Rattle.halo_model.specs.PartLaws.{DueByParts, ImmediateByParts, InsuranceByParts, ReversionAddsUp};
 ghost use Rattle.halo_model.specs.ReserveLaw.{ReserveIsConditional};
@@ -61,6 +62,12 @@ pub fn due_on_one_life()
 /// An annuity on w after u and one on u and w together are worth what the annuity on w is worth.
 pub fn reversion_adds_up()
     ensures { ReversionAddsUp }
+{}
+
+/// Of joint members that share nothing one fails first: the insurances on each member as the first
+/// add up to the insurance on all.
+pub fn first_marks_add_up()
+    ensures { FirstMarksAddUp }
 {}
 
 /// A reserve is a conditional expectation: over the outcomes from the start in which exactly the

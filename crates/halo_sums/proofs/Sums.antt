@@ -1,5 +1,5 @@
 -- Sums of natural numbers over lists.
-use Rattle.std.proofs.Common.{◌≡◌, ℕ, ◌+◌, ◌*◌, arith, refl, ap, ◌∙◌, List, [], ◌∷◌, ◌++◌, length, map}
+use Rattle.std.proofs.Common.{◌≡◌, ℕ, ◌+◌, ◌*◌, arith, refl, ap, sym, ◌∙◌, List, [], ◌∷◌, ◌++◌, length, map}
 use Rattle.std.proofs.Math.Path.{fun_ext}
 use Rattle.std.specs.List.{flat_map}
 use Rattle.halo_sums.specs.Sums.{product_over, sum_over}
@@ -41,3 +41,12 @@ module _ {X Y : Type 0} where
 pub sum_over-const : {X : Type 0} (xs : List X) (c : ℕ) → sum_over xs (λ x. c) ≡ length xs * c
 sum_over-const [] c = omega arith
 sum_over-const (x ∷ xs) c = omega (arith, sum_over-const xs c)
+
+pub sum_over-none : {X : Type 0} (xs : List X) → sum_over xs (λ x. 0) ≡ 0
+sum_over-none [] = refl
+sum_over-none (x ∷ xs) = omega (arith, sum_over-none xs)
+
+-- two sums change places
+pub sum_over-swap : {X Y : Type 0} (xs : List X) (ys : List Y) (f : X → Y → ℕ) → sum_over xs (λ x. sum_over ys (f x)) ≡ sum_over ys (λ y. sum_over xs (λ x. f x y))
+sum_over-swap [] ys f = sym (sum_over-none ys)
+sum_over-swap (x ∷ xs) ys f = ap (λ n. sum_over ys (f x) + n) (sum_over-swap xs ys f) ∙ sym (sum_over-add ys (f x) (λ y. sum_over xs (λ x. f x y)))
