@@ -32,7 +32,7 @@ count_true-most [] = omega arith
 count_true-most (true ∷ bs) = omega (arith, count_true-most bs)
 count_true-most (false ∷ bs) = omega (arith, count_true-most bs)
 
-count_true-at : (bs : List Bool) (p : ℕ) → one_if (get_or bs p false) ≤ count_true bs
+pub count_true-at : (bs : List Bool) (p : ℕ) → one_if (get_or bs p false) ≤ count_true bs
 count_true-at [] p = omega arith
 count_true-at (b ∷ bs) zero = omega (arith, count_true-cons b bs)
 count_true-at (b ∷ bs) (suc p) = omega (arith, count_true-cons b bs, count_true-at bs p)

@@ -143,7 +143,7 @@ first-add c bs cs one = ap (λ all. sum_over (numbers_from 0 (length bs)) (λ p.
     each true e = falls-add c bs cs e one
     each false e = sum_over-ext (numbers_from 0 (length bs)) _ _ (λ p. ap (λ b. cond b c 0) (and-false (get_or bs p false && not (get_or cs p false)))) ∙ sum_over-none (numbers_from 0 (length bs))
 
-guarded : (allowed : Bool) (places : List ℕ) (f : ℕ → Bool) (whole : Bool) (c : ℕ) → sum_over places (λ p. cond (f p) c 0) ≡ cond whole c 0 → sum_over places (λ p. cond (allowed && f p) c 0) ≡ cond (allowed && whole) c 0
+pub guarded : (allowed : Bool) (places : List ℕ) (f : ℕ → Bool) (whole : Bool) (c : ℕ) → sum_over places (λ p. cond (f p) c 0) ≡ cond whole c 0 → sum_over places (λ p. cond (allowed && f p) c 0) ≡ cond (allowed && whole) c 0
 guarded true places f whole c h = h
 guarded false places f whole c h = sum_over-none places
 

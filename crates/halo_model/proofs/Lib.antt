@@ -24,3 +24,4 @@ pub mod Reversion
 pub mod Since
 pub mod Conditional
 pub mod FirstMarks
+pub mod Ranks

@@ -21,7 +21,7 @@ use Rattle.halo_model.proofs.Expected.{expected-none}
 other-than : (a i : ℕ) → (i ≡ a → ⊥) → nat_eq a i ≡ false
 other-than a i h = grind (arith, nat_tests)
 
-get_or-each_exists : (alive on : ℕ → Bool) (ms : Trees) (p : ℕ) (s : Tree) → member_at ms p ≡ Some s → get_or (each_exists alive on ms) p false ≡ exists alive on s
+pub get_or-each_exists : (alive on : ℕ → Bool) (ms : Trees) (p : ℕ) (s : Tree) → member_at ms p ≡ Some s → get_or (each_exists alive on ms) p false ≡ exists alive on s
 get_or-each_exists alive on none p s e = absurd (cc)
 get_or-each_exists alive on (more t ms) zero s e = let q : t ≡ s = grind arith in rw q
 get_or-each_exists alive on (more t ms) (suc p) s e = get_or-each_exists alive on ms p s e

@@ -4,7 +4,7 @@ ghost use Rattle.halo_model.specs.ChanceLaws.{NoChanceOnEndOutside, NoChanceOnLe
 ghost use Rattle.halo_model.specs.ChanceLaws.{NoChanceOnOtherEnd, NoChanceOnOtherLeaving};
 ghost use Rattle.halo_model.specs.Horizon.{HorizonIsLeast};
 ghost use Rattle.halo_model.specs.Laws.{ExpectedByCoefficients, ExpectedBySets, LivesOfTablesKeepTheRule, WeightsAddUp};
-ghost use Rattle.halo_model.specs.MarkLaws.{FirstMarksAddUp};
+ghost use Rattle.halo_model.specs.MarkLaws.{FirstMarksAddUp, RanksAddUp};
 ghost use Rattle.halo_model.specs.OneLife.{DueOnOneLife};
 ghost use Rattle.halo_model.specs.PartLaws.{DueByParts, ImmediateByParts, InsuranceByParts, ReversionAddsUp};
 ghost use Rattle.halo_model.specs.ReserveLaw.{ReserveIsConditional};
@@ -64,10 +64,12 @@ pub fn reversion_adds_up()
     ensures { ReversionAddsUp }
 {}
 
-/// Of joint members that share nothing one fails first: the insurances on each member as the first
-/// add up to the insurance on all.
-pub fn first_marks_add_up()
-    ensures { FirstMarksAddUp }
+/// Marks add up. Of joint members that share nothing one fails first, so the insurances on each
+/// member as the first are together the insurance on all; and a member fails at some rank, so the
+/// insurances on it at each rank are together the insurance on it alone.
+pub fn marks_add_up()
+    ensures first { FirstMarksAddUp }
+    ensures ranks { RanksAddUp }
 {}
 
 /// A reserve is a conditional expectation: over the outcomes from the start in which exactly the
