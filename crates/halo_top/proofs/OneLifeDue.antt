@@ -1,28 +1,24 @@
 -- The value of an annuity-due on one life, year by year.
-use Rattle.std.proofs.Common.{◌≡◌, ℕ, zero, suc, ◌+◌, ◌*◌, ◌-◌, ◌≤◌, arith, refl, ap, sym, ◌∙◌, List, [], ◌∷◌, ◌++◌, max, true, nat_le, ◌&&◌, ◌^◌, mul-le-mul_left, mul-le-mul_right, pos, ◌*ℤ◌, ◌+ℤ◌}
+use Rattle.std.proofs.Common.{◌≡◌, ℕ, suc, ◌+◌, ◌*◌, ◌-◌, ◌≤◌, arith, refl, ap, sym, ◌∙◌, List, [], ◌∷◌, max, cond, nat_le, ◌^◌, mul-le-mul_left, mul-le-mul_right, pos, ◌+ℤ◌}
 use Rattle.std.proofs.lemmas.Bool.Decides.{nat_tests}
 use Rattle.std.proofs.lemmas.Int.{ints}
 use Rattle.halo_sums.specs.Sums.{numbers_from, product_over, sum_over}
-use Rattle.halo_sums.specs.Coefficients.{coefficient}
-use Rattle.halo_sums.proofs.IntSums.{int_sum_over-ext, int_sum_over-pos, int_sum_over-scale}
 use Rattle.halo_sums.proofs.Numbers.{numbers_from-split, sum_over-numbers_none}
-use Rattle.halo_sums.proofs.Sums.{product_over-append, sum_over-append}
+use Rattle.halo_sums.proofs.Sums.{product_over-append, sum_over-append, sum_over-ext, sum_over-scale}
 use Rattle.halo_num.specs.Chance.{EnclosesChance}
 use Rattle.halo_num.specs.Enclosure.{Encloses}
 use Rattle.halo_num.specs.Ends.{Ends, HasWidth, IsWithin, fine}
 use Rattle.halo_num.proofs.Enclosures.{encloses_add, encloses_at}
 use Rattle.halo_model.specs.Basis.{Basis, accumulated, discounted}
-use Rattle.halo_model.specs.Coefficient.{form}
 use Rattle.halo_model.specs.Counts.{greatest, measures_of, width_count}
 use Rattle.halo_model.specs.Horizon.{horizon}
 use Rattle.halo_table.specs.DecrementTable.{TableFile, survivors_at}
 use Rattle.halo_model.specs.FromTables.{life_of}
 use Rattle.halo_model.specs.Life.{IsLife, PlainLife}
 use Rattle.halo_model.specs.Order.{declared_order}
-use Rattle.halo_model.specs.Part.{due_part, existing_weight}
 use Rattle.halo_model.specs.Premium.{all_lives}
 use Rattle.halo_model.specs.Value.{denominator, numerator}
-use Rattle.halo_model.proofs.Annuities.{due-by-parts}
+use Rattle.halo_model.proofs.DueOnOneLife.{due-on-one-life}
 use Rattle.halo_top.specs.ExactValue.{due_pay}
 
 greatest-from : (least : ℕ) (ns : List ℕ) → least ≤ greatest least ns
@@ -49,26 +45,18 @@ module _ (p q : ℕ → ℕ) (last_time : ℕ) (x : PlainLife) where
   abbrev pub present : ℕ → ℕ
   present years = sum_over (numbers_from 0 years) yearly
 
-  existing_weight-is : (amount t : ℕ) → existing_weight basis (due_pay amount) 0 all_lives t ≡ pos (x.survivors t)
-  unfolding form coefficient
-  existing_weight-is amount t = omega (arith, ints)
+  cond-from-start : (t n : ℕ) → cond (nat_le 0 t) n 0 ≡ n
+  cond-from-start t n = grind (arith, nat_tests)
 
-  from-start : (t : ℕ) → (nat_le 0 t && nat_le 0 t) ≡ true
-  from-start t = grind (arith, nat_tests)
-
-  due_part-is : (amount t : ℕ) → due_part basis (due_pay amount) 0 all_lives t ≡ pos amount *ℤ pos (yearly t)
-  due_part-is amount t = rw (existing_weight-is amount t, from-start t) (omega (arith, ints))
-
-  -- the value of the whole annuity
-  numerator-is : IsLife x → (amount : ℕ) → pos (numerator basis (due_pay amount) 0 all_lives) ≡ pos (amount * present (suc last_time))
+  -- the whole annuity, and the common denominator
+  numerator-is : IsLife x → (amount : ℕ) → numerator basis (due_pay amount) 0 all_lives ≡ amount * present (suc last_time)
   numerator-is rule amount =
-      due-by-parts basis (rule, tt) (due_pay amount) refl refl 0 all_lives
-      ∙ ap (λ z. pos 1 *ℤ z) (int_sum_over-ext (numbers_from 0 (suc last_time)) _ _ (due_part-is amount) ∙ int_sum_over-scale (numbers_from 0 (suc last_time)) (pos amount) (λ t. pos (yearly t)) ∙ ap (λ z. pos amount *ℤ z) (int_sum_over-pos (numbers_from 0 (suc last_time)) yearly))
-      ∙ omega (arith, ints)
+      (due-on-one-life basis x refl rule (due_pay amount) refl refl refl).num
+      ∙ sum_over-ext (numbers_from 0 (suc last_time)) _ (λ t. amount * yearly t) (λ t. cond-from-start t (amount * 1 * discounted basis 0 t * x.survivors t) ∙ omega arith)
+      ∙ sum_over-scale (numbers_from 0 (suc last_time)) amount yearly
 
-  denominator-is : denominator basis 0 all_lives ≡ x.survivors 0 * accumulated basis 0
-  unfolding denominator
-  denominator-is = omega arith
+  denominator-is : IsLife x → denominator basis 0 all_lives ≡ x.survivors 0 * accumulated basis 0
+  denominator-is rule = (due-on-one-life basis x refl rule (due_pay 1) refl refl refl).den
 
   -- nothing is paid once the life's table has ended
   present-past : (years more : ℕ) → ((t : ℕ) → years ≤ t → x.survivors t ≡ 0) → present (years + more) ≡ present years
@@ -134,7 +122,7 @@ module _ (p q : ℕ → ℕ) (last_time : ℕ) (x : PlainLife) where
       let ended : present p q last_time x (suc last_time) ≡ present p q last_time x x.years_left
       = ap (present p q last_time x) (sym all) ∙ present-past p q last_time x x.years_left (suc last_time - x.years_left) rule.ends in
       let one : 1 * present p q last_time x (suc last_time) ≡ present p q last_time x x.years_left = omega (arith, ended) in
-      rw (numerator-is p q last_time x rule 1, denominator-is p q last_time x, one) sum.encloses
+      rw (numerator-is p q last_time x rule 1, denominator-is p q last_time x rule, one) sum.encloses
 
   narrow-enough : 1 ≤ x.years_left → (amount : ℕ) → x.years_left * (3 * x.years_left + 2) ≤ width_count (measures_of (basis p q last_time x) (due_pay amount))
   unfolding width_count horizon

@@ -1,6 +1,5 @@
 -- Where the files are told and no count rose, the words and the files call for one status.
 use Rattle.std.proofs.Common.{◌≡◌, ◌⊎◌, ℕ, ◌<◌, ◌≤◌, arith, refl, subst, sym, ◌∙◌, inl, inr, List, length, Some}
-use Rattle.std.specs.Prelude.{IfSome}
 use Rattle.halo_records.specs.Records.{records_of}
 use Rattle.halo_table.specs.FirstForm.{HasFirstForm}
 use Rattle.halo_table.specs.Grouping.{tables_of}
@@ -8,7 +7,7 @@ use Rattle.halo_top.specs.Command.{AsksValue, ReadsWords}
 use Rattle.halo_top.specs.Input.{AreTables, IsContract}
 use Rattle.halo_top.specs.OneLife.{HasOneLifeForm}
 use Rattle.halo_top.specs.Refusal.{status_of}
-use Rattle.halo_top.specs.Verdict.{AreRead, CallsFor, IsReport, Refused, Refuses, ReadsAll, Shelved, TablesInOrder}
+use Rattle.halo_top.specs.Verdict.{AreRead, CallsFor, IsReport, Refused, Refuses, ReadsAll, Shelved}
 use Rattle.halo_top.specs.declared.command.Command.{Command}
 use Rattle.halo_top.specs.declared.command.Command.TheVariants as command
 use Rattle.halo_top.specs.declared.refusal.InputFile.TheVariants as file
