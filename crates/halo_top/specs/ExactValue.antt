@@ -2,7 +2,8 @@
 use Rattle.std.specs.Prelude.{ℕ, List, [], ◌∷◌, None, pos, ◌+ℤ◌, ◌≤ℤ◌}
 use Rattle.halo_interest.specs.declared.rate.Rate.{Rate}
 use Rattle.halo_interest.specs.Rates.{rate_of}
-use Rattle.halo_num.specs.Enclosure.{EnclosesPrinted}
+use Rattle.halo_num.specs.Enclosure.{Encloses, EnclosesPrinted}
+use Rattle.halo_num.specs.Ends.{Ends}
 use Rattle.halo_num.specs.declared.nano.Nano.{Nano}
 use Rattle.halo_status.specs.Pay.{PlainPay}
 use Rattle.halo_status.specs.Tree.{life}
@@ -35,6 +36,10 @@ one_life_basis tables rates on = basis_of tables rates (on ∷ []) declared_orde
 -- an amount at the start of each year in which the first life is alive
 abbrev pub due_pay : ℕ → PlainPay
 due_pay amount = record { amount = amount; vary = Level; kind = Due; defer = 0; causes = None; body = life 0; mark = None }
+
+-- an interval encloses the exact value of a pay at the start
+abbrev pub EnclosesValue : Basis → PlainPay → Ends → Type 0
+EnclosesValue b pay i = Encloses i (pos (numerator b pay 0 all_lives)) (denominator b 0 all_lives)
 
 -- the printed ends enclose the exact value of a pay at the start, no wider than its count allows
 pub record EnclosesPay (b : Basis) (pay : PlainPay) (ends : Nano) : Type 0 where

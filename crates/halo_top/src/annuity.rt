@@ -1,11 +1,8 @@
 // The value of an annuity-due on one life.
 ghost use Rattle.std.specs.Prelude.{◌≡◌, ◌*◌, ◌<◌, ◌≤◌, ◌^◌, ℕ, length, pos};
-ghost use Rattle.halo_num.specs.Enclosure.{Encloses};
 ghost use Rattle.halo_num.specs.Ends.{HasWidth, IsSized, IsWithin, fine};
 ghost use Rattle.halo_model.specs.Counts.{measures_of, width_count};
-ghost use Rattle.halo_model.specs.Premium.{all_lives};
-ghost use Rattle.halo_model.specs.Value.{denominator, numerator};
-ghost use Rattle.halo_top.specs.ExactValue.{EnclosesPay, due_pay, one_life_basis};
+ghost use Rattle.halo_top.specs.ExactValue.{EnclosesPay, EnclosesValue, due_pay, one_life_basis};
 ghost use Rattle.halo_top.specs.OneLife.{IsAlive};
 
 use crate::one_life::OneLife;
@@ -16,7 +13,8 @@ use std::sync::ledger::Ledger;
 
 /// The value of 1 paid at the start of each year in which the life is alive: the sum over the years
 /// t of the discount of t years times the probability of being alive after t years, which is
-/// the survivors at the age then over the survivors at the age now.
+/// the survivors at the age then over the survivors at the age now. The year t widens the enclosure
+/// by at most 3t + 2 fine units.
 fn annuity_due<L: Ledger>(
     tables: &Tables,
     life: &Life,
@@ -24,8 +22,9 @@ fn annuity_due<L: Ledger>(
     steps: &mut Steps<L>,
 ) -> Ival
     requires { IsAlive tables.now life.now }
-    ensures encloses { Encloses result (pos (numerator (one_life_basis tables.now interest.now life.now) (due_pay 1) 0 all_lives)) (denominator (one_life_basis tables.now interest.now life.now) 0 all_lives) }
-    ensures narrow { (amount : ℕ) → HasWidth result (width_count (measures_of (one_life_basis tables.now interest.now life.now) (due_pay amount))) }
+    ensures encloses { EnclosesValue (one_life_basis tables.now interest.now life.now) (due_pay 1) result }
+    ensures narrow { (amount : ℕ) →
+        HasWidth result (width_count (measures_of (one_life_basis tables.now interest.now life.now) (due_pay amount))) }
     ensures within { IsWithin result (pos 0) (pos (201 * fine)) }
 {
     let powers = interest.powers(steps);
@@ -40,11 +39,13 @@ fn annuity_due<L: Ledger>(
     value
 }
 
-/// The enclosure of a contract's payment as it is printed.
+/// The enclosure of a contract's payment as it is printed: around its exact value, and no wider than
+/// its count allows.
 pub fn payment_value<L: Ledger>(tables: &Tables, contract: &OneLife, steps: &mut Steps<L>) -> Nano
     requires life { IsAlive tables.now contract.now.life }
     requires amount { contract.now.amount ≤ 10 ^ 10 }
-    ensures encloses { EnclosesPay (one_life_basis tables.now contract.now.interest contract.now.life) (due_pay contract.now.amount) result }
+    ensures encloses { EnclosesPay (one_life_basis tables.now contract.now.interest contract.now.life)
+        (due_pay contract.now.amount) result }
     ensures lo { IsSized result.lo (10 ^ 36) }
     ensures hi { IsSized result.hi (10 ^ 36) }
 {

@@ -34,6 +34,9 @@ const NO_MEMORY: u8 = 9;
 /// | 7 | where the contract file has: `contract NotBuilt` |
 /// | 9 | for want of memory; nothing was written, and the words were a command |
 ///
+/// The two decimals of each line of a report enclose the exact value of the contract that the files
+/// write, as far as they are told.
+///
 /// A text is built whole before its first write, and writing takes no memory.
 pub fn run<S: Shelf, K: Sink>(alloc: Global, words: &[String], shelf: &mut S, out: &mut K) -> u8
     ensures same { (n : List ℕ) → S.file shelf.new n ≡ S.file shelf.old n }
