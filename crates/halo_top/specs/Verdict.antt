@@ -1,6 +1,7 @@
 -- What a run has to answer: a status and a text, from the words, the files that the shelf tells, and the files of which the count of faults rose.
 use Rattle.std.specs.Prelude.{◌≡◌, ℕ, ◌<◌, ◌≤◌, ◌⊎◌, List, length, Option, IfSome, Some, Result, Ok, Err, ⊤}
 use Rattle.std.specs.Global.{Vec}
+use Rattle.halo_io.specs.Counts.{Rose}
 use Rattle.halo_num.specs.declared.nano.Nano.{Nano}
 use Rattle.halo_records.specs.Records.{records_of}
 use Rattle.halo_table.specs.DecrementTable.{TableFile}
@@ -25,6 +26,10 @@ use Rattle.halo_top.specs.declared.refusal.Stop.TheVariants as stop
 pub record Shelved : Type 1 where
   pub file : List ℕ → Option (List ℕ)
   pub rose : List ℕ → Type 0
+
+-- what a shelf tells of its files, and which counts rose from before to after
+abbrev pub shelved : (List ℕ → Option (List ℕ)) → (List ℕ → ℕ) → (List ℕ → ℕ) → Shelved
+shelved file before after = record { file = file; rose = λ n. Rose (before n) (after n) }
 
 -- the tables file of this name is in order, where it is told
 abbrev pub TablesInOrder : Shelved → List ℕ → Type 0

@@ -3,7 +3,7 @@ ghost use Rattle.std.specs.Prelude.{◌≡◌, ◌≢◌, ◌≤◌, ◌⊎◌, 
 ghost use Rattle.halo_io.specs.Counts.{Rose};
 ghost use Rattle.halo_io.specs.Told.{AppendsTold, TookPrefix};
 ghost use Rattle.halo_top.specs.Command.{IsCommand};
-ghost use Rattle.halo_top.specs.Verdict.{AnswersCommand, CallsFor, ReadsAll};
+ghost use Rattle.halo_top.specs.Verdict.{AnswersCommand, CallsFor, ReadsAll, shelved};
 
 use crate::command::Command;
 use crate::refusal::{Refusal, Stop};
@@ -41,14 +41,14 @@ const NO_MEMORY: u8 = 9;
 pub fn run<S: Shelf, K: Sink>(alloc: Global, words: &[String], shelf: &mut S, out: &mut K) -> u8
     ensures same { (n : List ℕ) → S.file shelf.new n ≡ S.file shelf.old n }
     ensures answer { result ≢ 1 → result ≢ 9 → (text : List ℕ)
-        × CallsFor (map string_bytes words.now) (record { file = S.file shelf.old; rose = λ n. Rose (S.faults shelf.old n) (S.faults shelf.new n) }) result text
+        × CallsFor (map string_bytes words.now) (shelved (S.file shelf.old) (S.faults shelf.old) (S.faults shelf.new)) result text
         × AppendsTold (K.taken out.old) (K.taken out.new) text }
     ensures write_fault { result ≡ 1 → Rose (K.faults out.old) (K.faults out.new) × ((status : ℕ) × (text : List ℕ)
-        × CallsFor (map string_bytes words.now) (record { file = S.file shelf.old; rose = λ n. Rose (S.faults shelf.old n) (S.faults shelf.new n) }) status text
+        × CallsFor (map string_bytes words.now) (shelved (S.file shelf.old) (S.faults shelf.old) (S.faults shelf.new)) status text
         × TookPrefix (K.taken out.old) (K.taken out.new) text) }
     ensures memory { result ≡ 9 → IsCommand (map string_bytes words.now) × (out.new ≡ out.old) }
-    ensures complete { (status : ℕ) (text : List ℕ) → ReadsAll (map string_bytes words.now) (record { file = S.file shelf.old; rose = λ n. Rose (S.faults shelf.old n) (S.faults shelf.new n) }) → (Rose (K.faults out.old) (K.faults out.new) → ⊥)
-        → CallsFor (map string_bytes words.now) (record { file = S.file shelf.old; rose = λ n. Rose (S.faults shelf.old n) (S.faults shelf.new n) }) status text → (result ≡ status) ⊎ (result ≡ 9) }
+    ensures complete { (status : ℕ) (text : List ℕ) → ReadsAll (map string_bytes words.now) (shelved (S.file shelf.old) (S.faults shelf.old) (S.faults shelf.new)) → (Rose (K.faults out.old) (K.faults out.new) → ⊥)
+        → CallsFor (map string_bytes words.now) (shelved (S.file shelf.old) (S.faults shelf.old) (S.faults shelf.new)) status text → (result ≡ status) ⊎ (result ≡ 9) }
     ensures usage { (IsCommand (map string_bytes words.now) → ⊥) → (result ≡ 2) ⊎ (result ≡ 1) }
 {
     let Some(command) = Command::read(words) else {
@@ -64,7 +64,7 @@ pub fn run<S: Shelf, K: Sink>(alloc: Global, words: &[String], shelf: &mut S, ou
 // The text that a command writes.
 fn answer<S: Shelf>(alloc: Global, command: Command<'_>, shelf: &mut S) -> Result<Vec<u8>, Stop>
     ensures same { (n : List ℕ) → S.file shelf.new n ≡ S.file shelf.old n }
-    ensures answer { AnswersCommand (record { file = S.file shelf.old; rose = λ n. Rose (S.faults shelf.old n) (S.faults shelf.new n) }) command.entry result }
+    ensures answer { AnswersCommand (shelved (S.file shelf.old) (S.faults shelf.old) (S.faults shelf.new)) command.entry result }
 {
     match command {
         Command::Value { tables, contract } => value(alloc, tables, contract, shelf),

@@ -1,11 +1,10 @@
 // The command `value`.
 ghost use Rattle.std.specs.Prelude.{◌≡◌, ◌<◌, ◌≤◌, ◌^◌, ℕ, List, IfErr, IfOk};
-ghost use Rattle.halo_io.specs.Counts.{Rose};
 ghost use Rattle.halo_num.specs.declared.nano.Nano.{Nano};
 ghost use Rattle.halo_top.specs.ExactValue.{EnclosesContract};
 ghost use Rattle.halo_top.specs.OneLife.{IsAlive};
 ghost use Rattle.halo_top.specs.Report.{report_of};
-ghost use Rattle.halo_top.specs.Verdict.{AnswersFiles};
+ghost use Rattle.halo_top.specs.Verdict.{AnswersFiles, shelved};
 
 use crate::annuity::payment_value;
 use crate::input::{load_contract, load_tables};
@@ -27,7 +26,7 @@ pub fn value<S: Shelf>(
     shelf: &mut S,
 ) -> Result<Vec<u8>, Stop>
     ensures same { (n : List ℕ) → S.file shelf.new n ≡ S.file shelf.old n }
-    ensures answer { AnswersFiles (record { file = S.file shelf.old; rose = λ n. Rose (S.faults shelf.old n) (S.faults shelf.new n) }) tables.now contract.now result }
+    ensures answer { AnswersFiles (shelved (S.file shelf.old) (S.faults shelf.old) (S.faults shelf.new)) tables.now contract.now result }
 {
     let tables = load_tables(alloc, shelf, tables)?;
     let contract = load_contract(alloc, shelf, contract, &tables)?;
