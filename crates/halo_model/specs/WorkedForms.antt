@@ -36,11 +36,11 @@ pub record SegmentRows : Type 0 where
   pub immediate_years : AreSegments (plain Immediate (joint (both x two_years))) 2 3 (from_to 1 2 ∷ from_to 3 3 ∷ [])
   pub x_second : AreSegments (marked 0 2 (joint (both x y))) 2 3 (from_to 0 2 ∷ [])
 
--- a life of whom one in n leaves each year
+-- a life in a table of n of whom one leaves each year
 abbrev pub even_leaver : ℕ → PlainLife
 even_leaver n = record { years_left = n; causes = 1; survivors = λ t. n - t; leavers = λ k j. cond (nat_lt k n) 1 0 }
 
--- such lives with 60 and 50 years left, without interest
+-- two such lives, of 60 and of 50, without interest
 abbrev pub long_basis : Basis
 long_basis = record { p = λ k. 0; q = λ k. 1; last_time = 60; lives = even_leaver 60 ∷ even_leaver 50 ∷ []; ties = declared_order }
 
