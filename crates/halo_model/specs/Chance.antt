@@ -1,6 +1,6 @@
 -- On which events a payment of an insurance can fall.
 use Rattle.std.specs.Prelude.{◌≡◌, ⊤, IsSomeAnd, ℕ, Bool, true, false, ◌&&◌, nat_eq, nat_le, nat_lt, List, get_or, Option, Some, None, ℤ, ◌-ℤ◌}
-use Rattle.halo_status.specs.Mask.{has_bit}
+use Rattle.halo_sums.specs.Masks.{has_bit}
 use Rattle.halo_status.specs.Tree.{Tree, member_at}
 use Rattle.halo_status.specs.Pay.{PlainPay}
 use Rattle.halo_status.specs.ValidPay.{IsValidPay}

@@ -1,6 +1,6 @@
 -- What a pay pays on an outcome: the rules of annuities and insurances.
 use Rattle.std.specs.Prelude.{ℕ, suc, ◌+◌, ◌-◌, ◌*◌, Bool, true, false, not, ◌&&◌, nat_eq, nat_le, nat_lt, List, get_or, length, Option, Some, None}
-use Rattle.halo_status.specs.Mask.{has_bit}
+use Rattle.halo_sums.specs.Masks.{has_bit}
 use Rattle.halo_status.specs.Tree.{Tree, Trees, joint, none}
 use Rattle.halo_status.specs.Exists.{count_true, each_exists, exists}
 use Rattle.halo_status.specs.View.{is_on}

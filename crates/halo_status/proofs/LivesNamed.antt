@@ -5,7 +5,7 @@ use Rattle.std.specs.Prelude.{bit_or}
 use Rattle.std.specs.declared.alloc.Global.{Global}
 use Rattle.std.specs.declared.boxed.Box.{Box}
 use Rattle.halo_status.specs.declared.status.Status.{Status, After}
-use Rattle.halo_status.specs.Mask.{has_bit}
+use Rattle.halo_sums.specs.Masks.{has_bit}
 use Rattle.halo_status.specs.Naming.{names_life, any_names_life, NamesLivesBelow, AnyNamesLivesBelow}
 use Rattle.halo_status.specs.StatusTree.{tree_of, trees_in}
 use Rattle.halo_status.proofs.Lists.{HasMembers, names_life-list}

@@ -5,7 +5,7 @@ use Rattle.std.specs.Prelude.{bit_or, max}
 use Rattle.std.proofs.lemmas.Bool.Decides.{eqb_tells, nat_tests}
 use Rattle.std.proofs.lemmas.Nat.Bits.{bit_at_or, bit_at-pow_same, bit_at-pow_other}
 use Rattle.std.proofs.Math.Pow.{pow-lt}
-use Rattle.halo_status.specs.Mask.{has_bit}
+use Rattle.halo_sums.specs.Masks.{has_bit}
 
 -- the mask of one number has that number alone
 has_bit-pow : (i j : ℕ) → has_bit (2 ^ i) j ≡ nat_eq j i

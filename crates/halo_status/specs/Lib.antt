@@ -1,7 +1,6 @@
 pub mod Bounds
 pub mod Exists
 pub mod Laws
-pub mod Mask
 pub mod Naming
 pub mod Nodes
 pub mod Pay

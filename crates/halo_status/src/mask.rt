@@ -1,6 +1,6 @@
 // A set of numbers below 16, kept as the bits of one number.
 ghost use Rattle.std.specs.Prelude.{◌≡◌};
-ghost use Rattle.halo_status.specs.Mask.{has_bit};
+ghost use Rattle.halo_sums.specs.Masks.{has_bit};
 
 // How many numbers a mask can hold: from 0 on.
 const PLACES: u8 = 16;

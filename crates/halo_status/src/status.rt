@@ -1,6 +1,6 @@
 ghost use Rattle.std.specs.Prelude.{◌≡◌, ℕ, ◌^◌, ◌<◌, ◌↔◌, IsTrue};
 ghost use Rattle.halo_status.specs.Exists.{exists, each_exists, count_true};
-ghost use Rattle.halo_status.specs.Mask.{has_bit};
+ghost use Rattle.halo_sums.specs.Masks.{has_bit};
 ghost use Rattle.halo_status.specs.Naming.{names_life, any_names_life, names_term, any_names_term, NamesLivesBelow, AnyNamesLivesBelow};
 ghost use Rattle.halo_status.specs.Nodes.{nodes, nodes_in, AtEachNodeIn, IsLasting, NeverReturns, HasShortList, HasShortLists};
 ghost use Rattle.halo_status.specs.StatusTree.{tree_of, trees_in};

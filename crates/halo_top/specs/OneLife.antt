@@ -4,7 +4,6 @@ use Rattle.halo_text.specs.Name.{IsName}
 use Rattle.halo_text.specs.Number.{IsNumber, number}
 use Rattle.halo_interest.specs.Rates.{IsFraction, level}
 use Rattle.halo_table.specs.DecrementTable.{TableFile, first_age_of, last_age_of, name_of}
-use Rattle.halo_table.specs.declared.lives.Life.{Life}
 use Rattle.halo_top.specs.declared.one_life.OneLife.{OneLife}
 
 -- the text is the line of the interest P/Q in every year, and the rest: each number is at most 10^9
@@ -73,9 +72,3 @@ pub record Writes (tables : TableFile) (bytes : List ℕ) (contract : OneLife) :
 abbrev pub ReadsOneLife : TableFile → List ℕ → Option OneLife → Type 0
 ReadsOneLife tables bytes None = HasOneLifeForm tables bytes → ⊥
 ReadsOneLife tables bytes (Some contract) = Writes tables bytes contract
-
--- the life's table is one of the tables, and has a row at its age
-pub record IsAlive (tables : TableFile) (life : Life) : Type 0 where
-  pub there : life.table < length tables.tables
-  pub first : first_age_of tables life.table ≤ life.age
-  pub last : life.age ≤ last_age_of tables life.table

@@ -3,7 +3,7 @@ ghost use Rattle.std.specs.Prelude.{◌≡◌, ◌*◌, ◌<◌, ◌≤◌, ◌^
 ghost use Rattle.halo_num.specs.Ends.{HasWidth, IsSized, IsWithin, fine};
 ghost use Rattle.halo_model.specs.Counts.{measures_of, width_count};
 ghost use Rattle.halo_top.specs.ExactValue.{EnclosesPay, EnclosesValue, due_pay, one_life_basis};
-ghost use Rattle.halo_top.specs.OneLife.{IsAlive};
+ghost use Rattle.halo_model.specs.FromTables.{HasRow};
 
 use crate::one_life::OneLife;
 use halo_interest::Interest;
@@ -21,7 +21,7 @@ fn annuity_due<L: Ledger>(
     interest: &Interest,
     steps: &mut Steps<L>,
 ) -> Ival
-    requires { IsAlive tables.now life.now }
+    requires { HasRow tables.now life.now.table life.now.age }
     ensures encloses { EnclosesValue (one_life_basis tables.now interest.now life.now) (due_pay 1) result }
     ensures narrow { (amount : ℕ) →
         HasWidth result (width_count (measures_of (one_life_basis tables.now interest.now life.now) (due_pay amount))) }
@@ -42,7 +42,7 @@ fn annuity_due<L: Ledger>(
 /// The enclosure of a contract's payment as it is printed: around its exact value, and no wider than
 /// its count allows.
 pub fn payment_value<L: Ledger>(tables: &Tables, contract: &OneLife, steps: &mut Steps<L>) -> Nano
-    requires life { IsAlive tables.now contract.now.life }
+    requires life { HasRow tables.now contract.now.life.table contract.now.life.age }
     requires amount { contract.now.amount ≤ 10 ^ 10 }
     ensures encloses { EnclosesPay (one_life_basis tables.now contract.now.interest contract.now.life)
         (due_pay contract.now.amount) result }

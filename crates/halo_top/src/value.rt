@@ -2,7 +2,7 @@
 ghost use Rattle.std.specs.Prelude.{◌≡◌, ◌<◌, ◌≤◌, ◌^◌, ℕ, List, IfErr, IfOk};
 ghost use Rattle.halo_num.specs.declared.nano.Nano.{Nano};
 ghost use Rattle.halo_top.specs.ExactValue.{EnclosesContract};
-ghost use Rattle.halo_top.specs.OneLife.{IsAlive};
+ghost use Rattle.halo_model.specs.FromTables.{HasRow};
 ghost use Rattle.halo_top.specs.Report.{report_of};
 ghost use Rattle.halo_top.specs.Verdict.{AnswersFiles, shelved};
 
@@ -43,7 +43,7 @@ fn report<L: Ledger>(
     requires name { blank.name ≡ L.name }
     requires parts { blank.parts ≡ L.parts }
     requires some { 0 < L.parts }
-    requires life { IsAlive tables.now contract.now.life }
+    requires life { HasRow tables.now contract.now.life.table contract.now.life.age }
     requires amount { contract.now.amount ≤ 10 ^ 10 }
     ensures text { IfOk result (λ text. (pay : Nano) × (total : Nano) × EnclosesContract tables.now contract.now pay total × (text.items ≡ report_of pay total)) }
     ensures memory { IfErr result (λ stop. stop ≡ Stop.Memory) }

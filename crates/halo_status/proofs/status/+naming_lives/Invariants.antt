@@ -1,6 +1,6 @@
 -- A life is named where it was found or where a member that is left names it.
 use Rattle.std.proofs.Common.{◌≡◌, ℕ, ◌||◌, drop}
-use Rattle.halo_status.specs.Mask.{has_bit}
+use Rattle.halo_sums.specs.Masks.{has_bit}
 use Rattle.halo_status.specs.Naming.{any_names_life}
 use Rattle.halo_status.specs.StatusTree.{trees_in}
 use Rattle.halo_status.proofs.status.+naming_lives.Given as goal

@@ -39,8 +39,8 @@ returns-clause-encloses g c =
     let file = c.args.tables.now in
     let on = c.args.life.now in
     let x : PlainLife = life_of file on.table on.age in
-    let all : c.loop-year.year ≡ x.years_left = omega (arith, c.loop-year-test.false, c.loop-year.auto.year-end, c.last_age.ensures.age, c.requires.last) in
-    let rule = life_of-IsLife file c.survivors-alive.ensures.sound on.table on.age c.requires.there c.requires.first in
+    let all : c.loop-year.year ≡ x.years_left = omega (arith, c.loop-year-test.false, c.loop-year.auto.year-end, c.last_age.ensures.age, c.requires.to_last) in
+    let rule = life_of-IsLife file c.survivors-alive.ensures.sound on.table on.age c.requires.table_in c.requires.from_first in
     whole (λ k. (rate_of c.args.interest.now k).p) (λ k. (rate_of c.args.interest.now k).q) 200 x rule (omega (arith, c.last_age.ensures.age, c.last_age.ensures.low)) c.loop-year.value (rw all at c.loop-year.invariant)
 
 pub returns-clause-narrow : goal.returns-clause-narrow
@@ -48,8 +48,8 @@ returns-clause-narrow g c =
     let file = c.args.tables.now in
     let on = c.args.life.now in
     let x : PlainLife = life_of file on.table on.age in
-    let all : c.loop-year.year ≡ x.years_left = omega (arith, c.loop-year-test.false, c.loop-year.auto.year-end, c.last_age.ensures.age, c.requires.last) in
-    whole-narrow (λ k. (rate_of c.args.interest.now k).p) (λ k. (rate_of c.args.interest.now k).q) 200 x (omega (arith, c.requires.last)) c.loop-year.value (rw all at c.loop-year.invariant)
+    let all : c.loop-year.year ≡ x.years_left = omega (arith, c.loop-year-test.false, c.loop-year.auto.year-end, c.last_age.ensures.age, c.requires.to_last) in
+    whole-narrow (λ k. (rate_of c.args.interest.now k).p) (λ k. (rate_of c.args.interest.now k).q) 200 x (omega (arith, c.requires.to_last)) c.loop-year.value (rw all at c.loop-year.invariant)
 
 pub returns-clause-within : goal.returns-clause-within
 returns-clause-within g c =
