@@ -8,7 +8,7 @@ use Rattle.halo_table.specs.declared.fault.TableKind.TheVariants as kind
 -- the kind at a place of the order
 kind_at : ℕ → TableKind
 kind_at n =
-    get_or (kind.NotBuilt ∷ kind.Header ∷ kind.Fields ∷ kind.Name ∷ kind.Number ∷ kind.Large ∷ kind.Again ∷ kind.TooMany ∷ kind.Age ∷ kind.Decrements ∷ kind.Closed ∷ []) n kind.NotBuilt
+    get_or (kind.Header ∷ kind.Header ∷ kind.Fields ∷ kind.Name ∷ kind.Number ∷ kind.Large ∷ kind.Again ∷ kind.TooMany ∷ kind.Age ∷ kind.Decrements ∷ kind.Closed ∷ []) n kind.Header
 
 -- it is that kind
 kind_at_rank : (k : TableKind) → kind_at (rank k) ≡ k
@@ -23,7 +23,6 @@ kind_at_rank kind.TooMany = refl
 kind_at_rank kind.Age = refl
 kind_at_rank kind.Decrements = refl
 kind_at_rank kind.Closed = refl
-kind_at_rank kind.NotBuilt = refl
 
 -- no two kinds stand at one place
 rank_one : (j k : TableKind) → rank j ≡ rank k → j ≡ k

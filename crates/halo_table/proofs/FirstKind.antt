@@ -31,7 +31,6 @@ first_of width names first last row k here fine again many age decrements = reco
     before kind.Age lt h = age lt h
     before kind.Decrements lt h = decrements lt h
     before kind.Closed lt h = fine kind.Closed h
-    before kind.NotBuilt lt h = fine kind.NotBuilt h
 
 -- no kind holds
 pub none_holds : (width : ℕ) (names : List (List ℕ)) (first : Bool) (last row : List (List ℕ)) → ((k : TableKind) → RowHolds width row k → ⊥)
@@ -48,7 +47,6 @@ none_holds width names first last row fine again many age decrements kind.TooMan
 none_holds width names first last row fine again many age decrements kind.Age h = age h
 none_holds width names first last row fine again many age decrements kind.Decrements h = decrements h
 none_holds width names first last row fine again many age decrements kind.Closed h = fine kind.Closed h
-none_holds width names first last row fine again many age decrements kind.NotBuilt h = fine kind.NotBuilt h
 
 -- the tests of the code are the facts of the definitions
 pub off_age_is : (width : ℕ) (first : Bool) (last row : List (List ℕ)) (r b : List ℕ) (follows : Bool) → 4 ≤ width → (IsTrue follows ↔ Continues first last row)

@@ -187,7 +187,6 @@ no_fault_at all f i low lt known kind.Closed x =
       | inl more ↦ x.1 more (f.follows i low more).name
       | inr le ↦ x.2 (let e = f.closes i (omega arith) in omega arith)
     ]
-no_fault_at all f i low lt known kind.NotBuilt x = absurd x.1
 
 -- record 1 of such a file has none
 no_fault_first : (all : List (List (List ℕ))) → HasFirstForm all → (k : TableKind) → Holds all 0 k → ⊥
@@ -201,7 +200,6 @@ no_fault_first all f kind.TooMany x = let four = f.one_cause in elim x [ inl y �
 no_fault_first all f kind.Age x = absurd (omega (arith, x.0))
 no_fault_first all f kind.Decrements x = absurd (omega (arith, x.0))
 no_fault_first all f kind.Closed x = absurd (omega (arith, x.0))
-no_fault_first all f kind.NotBuilt x = absurd (omega (arith, x.0))
 
 -- a file of the form has no fault, one cause and one table
 pub plain_of_form : (all : List (List (List ℕ))) → HasFirstForm all → NoFault all × IsPlain (tables_of all)

@@ -1,6 +1,7 @@
 -- What is looked up in sound tables.
-use Rattle.std.proofs.Common.{◌≡◌, ◌↔◌, ◌∙◌, ◌++◌, ℕ, zero, suc, ◌+◌, ◌<◌, ◌≤◌, Global, List, [], ◌∷◌, Vec, ap, arith, get_or, inl, inr, length, map, refl, set, sym}
+use Rattle.std.proofs.Common.{◌≡◌, ◌↔◌, ◌∙◌, ◌++◌, ℕ, zero, suc, ◌+◌, ◌<◌, ◌≤◌, Global, List, [], ◌∷◌, Vec, ap, arith, get_or, inl, inr, length, map, refl, set, sum, sym}
 use Rattle.std.proofs.lemmas.Bool.{cases_order}
+use Rattle.std.proofs.lemmas.List.Sums.{sum_by-cons}
 use Rattle.std.proofs.lemmas.List.{get_or-map, length-map, map-append}
 use Rattle.halo_table.specs.DecrementTable.{DecrementRow, DecrementTable, empty_row, empty_table}
 use Rattle.halo_table.specs.Reading.{IsLastName, with_last_row}
@@ -16,6 +17,12 @@ sound_row causes (row ∷ []) zero h lt = h.0
 sound_row causes (row ∷ []) (suc k) h lt = absurd (omega arith)
 sound_row causes (row ∷ next ∷ rest) zero h lt = h.0
 sound_row causes (row ∷ next ∷ rest) (suc k) h lt = sound_row causes (next ∷ rest) k h.2 (omega arith)
+
+-- the leavers by one cause are among all leavers
+pub leaver_in_sum : (leavers : List ℕ) (cause : ℕ) → get_or leavers cause 0 ≤ sum leavers
+leaver_in_sum [] cause = omega arith
+leaver_in_sum (n ∷ rest) zero = omega (arith, sum_by-cons (λ m. m) n rest)
+leaver_in_sum (n ∷ rest) (suc cause) = omega (arith, sum_by-cons (λ m. m) n rest, leaver_in_sum rest cause)
 
 -- survivors at a place of the rows, 0 past the last
 abbrev pub survivors_in : List DecrementRow → ℕ → ℕ

@@ -82,7 +82,6 @@ every all i rest c kind.TooMany x = rest kind.TooMany (λ e. cc e) x
 every all i rest c kind.Age x = rest kind.Age (λ e. cc e) x
 every all i rest c kind.Decrements x = rest kind.Decrements (λ e. cc e) x
 every all i rest c kind.Closed x = c x
-every all i rest c kind.NotBuilt x = rest kind.NotBuilt (λ e. cc e) x
 
 -- where the record before is closed, no record so far has a fault
 closing : (all : List (List (List ℕ))) (n : ℕ) → ReadSoFar all n → (Holds all (n - 1) kind.Closed → ⊥) → Clean all n
@@ -111,7 +110,6 @@ to_holds all n some kind.TooMany x = inr (omega arith, x.0, x.1)
 to_holds all n some kind.Age x = (omega arith, x)
 to_holds all n some kind.Decrements x = (omega arith, x)
 to_holds all n some kind.Closed x = absurd x
-to_holds all n some kind.NotBuilt x = absurd x
 
 -- a fault of the file, but for `Closed`, is wrong with the record beside the one before it
 from_holds : (all : List (List (List ℕ))) (n : ℕ) → 1 ≤ n → (k : TableKind) → k ≢ kind.Closed → Holds all n k → StepOf all n k
@@ -125,7 +123,6 @@ from_holds all n some kind.TooMany b x = elim x [ inl y ↦ absurd (omega (arith
 from_holds all n some kind.Age b x = x.1
 from_holds all n some kind.Decrements b x = x.1
 from_holds all n some kind.Closed b x = absurd (b refl)
-from_holds all n some kind.NotBuilt b x = x.1
 
 -- `Closed` comes last of the kinds that hold of a row beside the record before it
 step_rank : (all : List (List (List ℕ))) (n : ℕ) (k : TableKind) → StepOf all n k → rank k ≤ 10
@@ -139,7 +136,6 @@ step_rank all n kind.TooMany x = omega arith
 step_rank all n kind.Age x = omega arith
 step_rank all n kind.Decrements x = omega arith
 step_rank all n kind.Closed x = omega arith
-step_rank all n kind.NotBuilt x = absurd x
 
 -- the next record has a fault, told by its number
 step_fault_at : (all : List (List (List ℕ))) (n m : ℕ) (k : TableKind) → 1 ≤ n → n < length all → m ≡ n + 1 → Clean all n → IsFirst (StepOf all n) k → IsFirstFault all m k

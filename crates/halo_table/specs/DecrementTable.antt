@@ -41,6 +41,10 @@ row_of t age = get_or t.rows (age - t.first_age) empty_row
 abbrev pub name_of : TableFile → ℕ → List ℕ
 name_of file table = (table_of file table).name
 
+-- the name of a cause
+abbrev pub cause_of : TableFile → ℕ → List ℕ
+cause_of file place = get_or file.causes place []
+
 -- the age of a table's first row
 abbrev pub first_age_of : TableFile → ℕ → ℕ
 first_age_of file table = (table_of file table).first_age

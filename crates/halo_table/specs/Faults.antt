@@ -20,7 +20,6 @@ rank kind.TooMany = 7
 rank kind.Age = 8
 rank kind.Decrements = 9
 rank kind.Closed = 10
-rank kind.NotBuilt = 11
 
 -- of the kinds that may hold, this one does and none before it in the order
 pub record IsFirst (holds : TableKind → Type 0) (k : TableKind) : Type 0 where
@@ -47,7 +46,6 @@ RowHolds width row kind.TooMany = ⊥
 RowHolds width row kind.Age = ⊥
 RowHolds width row kind.Decrements = ⊥
 RowHolds width row kind.Closed = ⊥
-RowHolds width row kind.NotBuilt = ⊥
 
 -- the row does not start a table: it is not the first row, and the record before it has the same first field
 abbrev pub Continues : Bool → List (List ℕ) → List (List ℕ) → Type 0

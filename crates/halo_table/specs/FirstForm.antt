@@ -39,9 +39,3 @@ pub record HasFirstForm (records : List (List (List ℕ))) : Type 0 where
 -- one cause and one table
 abbrev pub IsPlain : TableFile → Type 0
 IsPlain file = (length file.causes ≡ 1) × (length file.tables ≡ 1)
-
--- what is answered for a file with these records: its tables where it has the form, and else a fault in record 1
-abbrev pub AnswersFirstForm : List (List (List ℕ)) → Result TableFile TablesError → Type 0
-AnswersFirstForm records (Ok file) = HasFirstForm records × (file ≡ tables_of records)
-AnswersFirstForm records (Err error.Memory) = ⊤
-AnswersFirstForm records (Err (error.Fault f)) = (HasFirstForm records → ⊥) × (f.row ≡ 1) × (f.kind ≡ kind.NotBuilt)

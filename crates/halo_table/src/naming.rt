@@ -47,4 +47,14 @@ impl Name {
     {
         self.text.as_slice()
     }
+
+    /// The same name once more. It takes no memory, as `clone` may say it does.
+    pub(crate) fn copied(&self) -> Name
+        ensures { result ≡ self.now }
+    {
+        match Name::new(self.bytes()) {
+            Some(name) => name,
+            None => unreachable!(),
+        }
+    }
 }

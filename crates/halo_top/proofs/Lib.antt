@@ -9,5 +9,6 @@ mod OneLifeDue
 mod OneLifeForm
 mod OneStatus
 mod PayLine
+mod PlainTables
 mod Told
 mod Words
