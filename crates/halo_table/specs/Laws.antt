@@ -1,7 +1,6 @@
 -- Laws of the faults and of the tables of a file.
-use Rattle.std.specs.Prelude.{◌≡◌, ◌↔◌, ℕ, List}
+use Rattle.std.specs.Prelude.{◌≡◌, ℕ, List}
 use Rattle.halo_table.specs.Faults.{IsFirstFault, NoFault}
-use Rattle.halo_table.specs.FirstForm.{HasFirstForm, IsPlain}
 use Rattle.halo_table.specs.Grouping.{tables_of}
 use Rattle.halo_table.specs.Sound.{IsSound}
 use Rattle.halo_table.specs.declared.fault.TableKind.{TableKind}
@@ -17,7 +16,3 @@ NoFaultIsFirst = (records : List (List (List ℕ))) (row : ℕ) (k : TableKind) 
 -- the tables of a file without fault are sound
 abbrev pub TablesAreSound : Type 0
 TablesAreSound = (records : List (List (List ℕ))) → NoFault records → IsSound (tables_of records)
-
--- a file has the form that is accepted so far exactly where it has no fault, one cause and one table
-abbrev pub FirstFormIsPlain : Type 0
-FirstFormIsPlain = (records : List (List (List ℕ))) → HasFirstForm records ↔ (NoFault records × IsPlain (tables_of records))

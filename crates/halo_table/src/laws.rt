@@ -1,5 +1,5 @@
 // Laws of the definitions: functions that do nothing, whose contracts are the laws.
-ghost use Rattle.halo_table.specs.Laws.{FirstFaultIsOne, FirstFormIsPlain, NoFaultIsFirst, TablesAreSound};
+ghost use Rattle.halo_table.specs.Laws.{FirstFaultIsOne, NoFaultIsFirst, TablesAreSound};
 
 /// A file has at most one first fault: one record, and one kind there.
 pub fn first_fault_is_one()
@@ -15,10 +15,4 @@ pub fn no_fault_is_first()
 /// tables have one name, survivors fall by the leavers, and in the last row all leave.
 pub fn tables_are_sound()
     ensures { TablesAreSound }
-{}
-
-/// A file has the form that is accepted so far exactly where it has no fault, one cause and
-/// one table.
-pub fn first_form_is_plain()
-    ensures { FirstFormIsPlain }
 {}

@@ -17,7 +17,8 @@ pub calls_for_line : (words : List (List ℕ)) (shelf : Shelved) (asked : Comman
 calls_for_line words shelf (command.Value tables contract) refusal.Usage asks refuses = absurd refuses
 calls_for_line words shelf (command.Value tables contract) (refusal.Read f) asks refuses = inr (refusal.Read f, (tables.now, contract.now, asks, refuses), refl, refl)
 calls_for_line words shelf (command.Value tables contract) (refusal.TooLong f) asks refuses = inr (refusal.TooLong f, (tables.now, contract.now, asks, refuses), refl, refl)
-calls_for_line words shelf (command.Value tables contract) (refusal.NotBuilt f) asks refuses = inr (refusal.NotBuilt f, (tables.now, contract.now, asks, refuses), refl, refl)
+calls_for_line words shelf (command.Value tables contract) (refusal.Table fault) asks refuses = inr (refusal.Table fault, (tables.now, contract.now, asks, refuses), refl, refl)
+calls_for_line words shelf (command.Value tables contract) refusal.NotBuilt asks refuses = inr (refusal.NotBuilt, (tables.now, contract.now, asks, refuses), refl, refl)
 
 pub is_command : (words : List (List ℕ)) (asked : Command) → ReadsWords words (Some asked) → IsCommand words
 is_command words (command.Value tables contract) asks = (tables.now, contract.now, asks)

@@ -5,13 +5,13 @@ use Rattle.std.specs.Global.{Vec}
 use Rattle.halo_num.specs.declared.nano.Nano.{Nano}
 use Rattle.halo_records.specs.Records.{records_of}
 use Rattle.halo_table.specs.DecrementTable.{TableFile}
-use Rattle.halo_table.specs.FirstForm.{IsPlain}
 use Rattle.halo_table.specs.Grouping.{tables_of}
+use Rattle.halo_table.specs.Sound.{IsSound}
 use Rattle.halo_top.specs.Input.{AreTables, IsContract}
 use Rattle.halo_top.specs.OneLife.{Writes}
 use Rattle.halo_top.specs.Report.{report_of}
 use Rattle.halo_top.specs.ExactValue.{EnclosesContract}
-use Rattle.halo_table.proofs.Form.{plain_of_form}
+use Rattle.halo_table.proofs.Soundness.{sound_of_fine}
 use Rattle.halo_top.proofs.OneLifeForm.{one-contract}
 use Rattle.halo_top.specs.Verdict.{AnswersFiles, EnclosesFiles, Shelved}
 use Rattle.halo_top.specs.declared.refusal.Stop.{Stop}
@@ -34,8 +34,8 @@ pub values : (tables_file contract_file : Option (List ℕ)) (tables : TableFile
 values None contract_file tables bytes contract pay total loaded written same encloses = tt
 values (Some all_tables) None tables bytes contract pay total loaded written same encloses = tt
 values (Some all_tables) (Some all) tables bytes contract pay total loaded written same encloses = λ other writes.
-    let plain : IsPlain tables = subst IsPlain (sym loaded.1) (plain_of_form (records_of all_tables) loaded.0.form).1 in
-    let one = one-contract tables bytes plain.1 contract other written (rw (← same, ← loaded.1) at writes) in
+    let sound : IsSound tables = subst IsSound (sym loaded.1) (sound_of_fine (records_of all_tables) loaded.0.fine) in
+    let one = one-contract tables bytes sound.tables_apart contract other written (rw (← same, ← loaded.1) at writes) in
     rw (one, ← loaded.1) encloses
 
 -- the report of two files in order is what they answer, and so is want of memory

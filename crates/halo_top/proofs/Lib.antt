@@ -9,6 +9,5 @@ mod OneLifeDue
 mod OneLifeForm
 mod OneStatus
 mod PayLine
-mod PlainTables
 mod Told
 mod Words

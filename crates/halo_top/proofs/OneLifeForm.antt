@@ -1,8 +1,10 @@
 -- Where the reader of a contract of one life stops, the bytes have not the form.
-use Rattle.std.proofs.Common.{◌≡◌, ℕ, List, length, arith, refl, sym, ◌∙◌}
+use Rattle.std.proofs.Common.{◌≡◌, ℕ, List, refl, sym, ◌∙◌}
 use Rattle.halo_text.specs.Number.{number}
 use Rattle.halo_interest.specs.Rates.{IsFraction}
-use Rattle.halo_table.specs.DecrementTable.{TableFile}
+use Rattle.halo_table.specs.DecrementTable.{TableFile, name_of, names_of}
+use Rattle.halo_table.specs.Sound.{AreApart}
+use Rattle.halo_table.proofs.LookUps.{same_place}
 use Rattle.halo_top.specs.OneLife.{HasOneLifeForm, IsInterestLine, IsLifeLine, IsPayLine, Writes}
 use Rattle.halo_top.proofs.InterestLine as interest
 use Rattle.halo_top.proofs.LifeLine as life
@@ -31,15 +33,16 @@ no_pay_line tables bytes p q rest name table age others place line lived none (w
 same-parts : (c d : OneLife) → c.interest ≡ d.interest → c.life.table ≡ d.life.table → c.life.age ≡ d.life.age → c.amount ≡ d.amount → c ≡ d
 same-parts c d interest table age amount = rw (← interest, ← table, ← age, ← amount) refl
 
--- with a table to a name, only one contract is written
-pub one-contract : (tables : TableFile) (bytes : List ℕ) → length tables.tables ≡ 1 → (c d : OneLife) → Writes tables bytes c → Writes tables bytes d → d ≡ c
-one-contract tables bytes one_table c d writes other =
+-- where no two tables have one name, only one contract is written
+pub one-contract : (tables : TableFile) (bytes : List ℕ) → AreApart (names_of tables.tables) → (c d : OneLife) → Writes tables bytes c → Writes tables bytes d → d ≡ c
+one-contract tables bytes apart c d writes other =
     let a = writes.form in
     let b = other.form in
     let rates = interest.one_line bytes _ _ _ _ _ _ a.interest b.interest in
     let lives = life.one_line tables a.behind_interest _ _ _ _ _ _ _ _ _ _ a.life (rw (← rates.2) at b.life) in
     let amounts = pay.one_amount a.behind_life writes.written.life writes.written.amount other.written.amount a.pay (rw (← lives.3, lives.0) at b.pay) in
-    let place : d.life.table ≡ c.life.table = omega (arith, one_table, a.life.row.there, b.life.row.there) in
+    let named : name_of tables c.life.table ≡ name_of tables d.life.table = a.life.row.named ∙ sym lives.1 ∙ sym b.life.row.named in
+    let place : d.life.table ≡ c.life.table = same_place tables.tables c.life.table d.life.table apart a.life.row.there b.life.row.there named in
     same-parts d c
     (other.interest ∙ rw (rates.0, rates.1) (sym writes.interest))
     place

@@ -3,8 +3,9 @@ use Rattle.std.specs.Prelude.{◌≡◌, ℕ, ◌<◌, ◌≤◌, List, length, 
 use Rattle.std.specs.Global.{Vec}
 use Rattle.halo_records.specs.Records.{records_of}
 use Rattle.halo_table.specs.DecrementTable.{TableFile}
-use Rattle.halo_table.specs.FirstForm.{HasFirstForm}
+use Rattle.halo_table.specs.Faults.{IsFirstFault, NoFault}
 use Rattle.halo_table.specs.Grouping.{tables_of}
+use Rattle.halo_table.specs.declared.fault.TableFault.{TableFault}
 use Rattle.halo_top.specs.OneLife.{HasOneLifeForm, Writes}
 use Rattle.halo_top.specs.declared.one_life.OneLife.{OneLife}
 use Rattle.halo_top.specs.declared.refusal.InputFile.{InputFile}
@@ -18,10 +19,15 @@ abbrev pub limit_of : InputFile → ℕ
 limit_of file.Tables = 16777216
 limit_of file.Contract = 65536
 
--- the bytes of a tables file are few enough, and have the form that is valued
+-- the bytes of a tables file are few enough, and their records have no fault
 pub record AreTables (bytes : List ℕ) : Type 0 where
   pub short : length bytes ≤ limit_of file.Tables
-  pub form : HasFirstForm (records_of bytes)
+  pub fine : NoFault (records_of bytes)
+
+-- the bytes of a tables file are few enough, and this is the first fault of their records
+pub record HasTableFault (bytes : List ℕ) (fault : TableFault) : Type 0 where
+  pub short : length bytes ≤ limit_of file.Tables
+  pub first : IsFirstFault (records_of bytes) fault.row fault.kind
 
 -- the bytes of a contract file are few enough, and have the form that is valued with these tables
 pub record IsContract (tables : TableFile) (bytes : List ℕ) : Type 0 where
@@ -41,7 +47,7 @@ abbrev pub LoadsTables : Option (List ℕ) → Type 0 → Result TableFile Stop 
 LoadsTables told rose (Ok tables) = IfSome told (λ all. AreTables all × (tables ≡ tables_of (records_of all)))
 LoadsTables told rose (Err (stop.Refused (refusal.Read file.Tables))) = rose
 LoadsTables told rose (Err (stop.Refused (refusal.TooLong file.Tables))) = IfSome told (λ all. limit_of file.Tables < length all)
-LoadsTables told rose (Err (stop.Refused (refusal.NotBuilt file.Tables))) = IfSome told (λ all. (length all ≤ limit_of file.Tables) × (HasFirstForm (records_of all) → ⊥))
+LoadsTables told rose (Err (stop.Refused (refusal.Table fault))) = IfSome told (λ all. HasTableFault all fault)
 LoadsTables told rose (Err stop.Memory) = ⊤
 LoadsTables told rose (Err _) = ⊥
 
@@ -50,6 +56,6 @@ abbrev pub LoadsContract : TableFile → Option (List ℕ) → Type 0 → Result
 LoadsContract tables told rose (Ok contract) = (bytes : List ℕ) × (length bytes ≤ limit_of file.Contract) × Writes tables bytes contract × IfSome told (λ all. bytes ≡ all)
 LoadsContract tables told rose (Err (stop.Refused (refusal.Read file.Contract))) = rose
 LoadsContract tables told rose (Err (stop.Refused (refusal.TooLong file.Contract))) = IfSome told (λ all. limit_of file.Contract < length all)
-LoadsContract tables told rose (Err (stop.Refused (refusal.NotBuilt file.Contract))) = IfSome told (λ all. (length all ≤ limit_of file.Contract) × (HasOneLifeForm tables all → ⊥))
+LoadsContract tables told rose (Err (stop.Refused refusal.NotBuilt)) = IfSome told (λ all. (length all ≤ limit_of file.Contract) × (HasOneLifeForm tables all → ⊥))
 LoadsContract tables told rose (Err stop.Memory) = ⊤
 LoadsContract tables told rose (Err _) = ⊥

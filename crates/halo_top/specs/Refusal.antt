@@ -1,23 +1,47 @@
 -- The line and the status of each refusal.
-use Rattle.std.specs.Prelude.{ℕ, List, codes}
+use Rattle.std.specs.Prelude.{ℕ, List, ◌++◌, codes}
+use Rattle.std.specs.Fmt.{decimal}
+use Rattle.halo_table.specs.declared.fault.TableKind.{TableKind}
+use Rattle.halo_table.specs.declared.fault.TableKind.TheVariants as kind
+use Rattle.halo_top.specs.declared.refusal.InputFile.{InputFile}
 use Rattle.halo_top.specs.declared.refusal.InputFile.TheVariants as file
 use Rattle.halo_top.specs.declared.refusal.Refusal.{Refusal}
 use Rattle.halo_top.specs.declared.refusal.Refusal.TheVariants as refusal
 
+-- the word for a file
+abbrev pub file_word : InputFile → List ℕ
+file_word file.Tables = codes "tables"
+file_word file.Contract = codes "contract"
+
+-- the word for what is wrong with a record of a tables file
+abbrev pub kind_word : TableKind → List ℕ
+kind_word kind.Header = codes "Header"
+kind_word kind.Fields = codes "Fields"
+kind_word kind.Name = codes "Name"
+kind_word kind.Number = codes "Number"
+kind_word kind.Large = codes "Large"
+kind_word kind.Again = codes "Again"
+kind_word kind.TooMany = codes "TooMany"
+kind_word kind.Age = codes "Age"
+kind_word kind.Decrements = codes "Decrements"
+kind_word kind.Closed = codes "Closed"
+
+-- the line that a refusal writes, without its line feed: the fault of a tables file is told with the number of the record, from 1
+abbrev pub words_of : Refusal → List ℕ
+words_of refusal.Usage = codes "usage: halo value T C, check T C, compile T C, explain T C, columns T NAME P/Q, sample N"
+words_of (refusal.Read f) = codes "read fault " ++ file_word f
+words_of (refusal.TooLong f) = codes "too long " ++ file_word f
+words_of (refusal.Table fault) = codes "tables record " ++ decimal fault.row ++ codes " " ++ kind_word fault.kind
+words_of refusal.NotBuilt = codes "contract NotBuilt"
+
 -- the line that a refusal writes
 abbrev pub line_of : Refusal → List ℕ
-line_of refusal.Usage = codes "usage: halo value T C, check T C, compile T C, explain T C, columns T NAME P/Q, sample N\n"
-line_of (refusal.Read file.Tables) = codes "read fault tables\n"
-line_of (refusal.Read file.Contract) = codes "read fault contract\n"
-line_of (refusal.TooLong file.Tables) = codes "too long tables\n"
-line_of (refusal.TooLong file.Contract) = codes "too long contract\n"
-line_of (refusal.NotBuilt file.Tables) = codes "tables NotBuilt\n"
-line_of (refusal.NotBuilt file.Contract) = codes "contract NotBuilt\n"
+line_of r = words_of r ++ codes "\n"
 
 -- the status of a refusal
 abbrev pub status_of : Refusal → ℕ
 status_of refusal.Usage = 2
 status_of (refusal.Read _) = 3
 status_of (refusal.TooLong _) = 4
-status_of (refusal.NotBuilt file.Tables) = 5
-status_of (refusal.NotBuilt file.Contract) = 7
+status_of (refusal.Table _) = 5
+status_of refusal.NotBuilt = 7

@@ -5,10 +5,9 @@ use Rattle.halo_io.specs.Counts.{Rose}
 use Rattle.halo_num.specs.declared.nano.Nano.{Nano}
 use Rattle.halo_records.specs.Records.{records_of}
 use Rattle.halo_table.specs.DecrementTable.{TableFile}
-use Rattle.halo_table.specs.FirstForm.{HasFirstForm}
 use Rattle.halo_table.specs.Grouping.{tables_of}
 use Rattle.halo_top.specs.Command.{AsksValue, IsCommand}
-use Rattle.halo_top.specs.Input.{AreTables, IsContract, limit_of}
+use Rattle.halo_top.specs.Input.{AreTables, HasTableFault, IsContract, limit_of}
 use Rattle.halo_top.specs.ExactValue.{EnclosesContract}
 use Rattle.halo_top.specs.OneLife.{HasOneLifeForm, Writes}
 use Rattle.halo_top.specs.Refusal.{line_of, status_of}
@@ -39,10 +38,10 @@ TablesInOrder shelf tables = IfSome (shelf.file tables) AreTables
 abbrev pub Refuses : Shelved → List ℕ → List ℕ → Refusal → Type 0
 Refuses shelf tables contract (refusal.Read file.Tables) = shelf.rose tables
 Refuses shelf tables contract (refusal.TooLong file.Tables) = IfSome (shelf.file tables) (λ all. limit_of file.Tables < length all)
-Refuses shelf tables contract (refusal.NotBuilt file.Tables) = IfSome (shelf.file tables) (λ all. (length all ≤ limit_of file.Tables) × (HasFirstForm (records_of all) → ⊥))
+Refuses shelf tables contract (refusal.Table fault) = IfSome (shelf.file tables) (λ all. HasTableFault all fault)
 Refuses shelf tables contract (refusal.Read file.Contract) = TablesInOrder shelf tables × shelf.rose contract
 Refuses shelf tables contract (refusal.TooLong file.Contract) = TablesInOrder shelf tables × IfSome (shelf.file contract) (λ all. limit_of file.Contract < length all)
-Refuses shelf tables contract (refusal.NotBuilt file.Contract) = IfSome (shelf.file tables) (λ all_tables. AreTables all_tables
+Refuses shelf tables contract refusal.NotBuilt = IfSome (shelf.file tables) (λ all_tables. AreTables all_tables
     × IfSome (shelf.file contract) (λ all. (length all ≤ limit_of file.Contract) × (HasOneLifeForm (tables_of (records_of all_tables)) all → ⊥)))
 Refuses shelf tables contract refusal.Usage = ⊥
 
@@ -79,15 +78,17 @@ CallsFor words shelf status text =
     ((status ≡ 0) × ((tables : List ℕ) × (contract : List ℕ) × AsksValue words tables contract × IsReport shelf tables contract text))
     ⊎ ((r : Refusal) × Refused words shelf r × (status ≡ status_of r) × (text ≡ line_of r))
 
--- the files of these names are told, and no count of their faults rose
-pub record AreRead (shelf : Shelved) (tables contract : List ℕ) : Type 0 where
-  pub all_tables : List ℕ
-  pub tables_told : shelf.file tables ≡ Some all_tables
-  pub tables_sure : shelf.rose tables → ⊥
+-- the file of this name is told, and its count of faults did not rise
+pub record IsRead (shelf : Shelved) (name : List ℕ) : Type 0 where
   pub all : List ℕ
-  pub contract_told : shelf.file contract ≡ Some all
-  pub contract_sure : shelf.rose contract → ⊥
+  pub told : shelf.file name ≡ Some all
+  pub sure : shelf.rose name → ⊥
 
--- the files that the words name, if they are a command, are told, and no count of their faults rose
+-- the files of these names are read as far as they are needed: the contract file is where the tables file is in order
+pub record AreRead (shelf : Shelved) (tables contract : List ℕ) : Type 0 where
+  pub tables_read : IsRead shelf tables
+  pub contract_read : AreTables tables_read.all → IsRead shelf contract
+
+-- the files that the words name, if they are a command, are read as far as they are needed
 abbrev pub ReadsAll : List (List ℕ) → Shelved → Type 0
 ReadsAll words shelf = (tables contract : List ℕ) → AsksValue words tables contract → AreRead shelf tables contract

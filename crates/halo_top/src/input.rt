@@ -1,6 +1,5 @@
 // The files that a command reads.
-ghost use Rattle.std.specs.Prelude.{◌≡◌, ◌≤◌, ℕ, List, IfErr, IfOk};
-ghost use Rattle.halo_table.specs.FirstForm.{IsPlain};
+ghost use Rattle.std.specs.Prelude.{◌≡◌, ◌≤◌, ℕ, List};
 ghost use Rattle.halo_io.specs.Counts.{Rose};
 ghost use Rattle.halo_top.specs.Input.{LoadsContract, LoadsFile, LoadsTables, limit_of};
 
@@ -18,21 +17,9 @@ pub fn load_tables<S: Shelf>(alloc: Global, shelf: &mut S, name: &str) -> Result
 {
     let bytes = load_file(alloc, shelf, name, InputFile::Tables)?;
     match Tables::read(alloc, &bytes) {
-        Ok(tables) => plain(tables),
+        Ok(tables) => Ok(tables),
+        Err(TablesError::Fault(fault)) => Err(Stop::Refused(Refusal::Table(fault))),
         Err(TablesError::Memory) => Err(Stop::Memory),
-        Err(TablesError::Fault(_)) => Err(Stop::Refused(Refusal::NotBuilt(InputFile::Tables))),
-    }
-}
-
-// Tables that are valued so far: one table, with one cause.
-fn plain(tables: Tables) -> Result<Tables, Stop>
-    ensures ok { IfOk result (λ found. (found ≡ tables) × IsPlain tables) }
-    ensures err { IfErr result (λ stop. (stop ≡ Stop.Refused (Refusal.NotBuilt InputFile.Tables)) × (IsPlain tables → ⊥)) }
-{
-    if tables.causes() == 1 && tables.count() == 1 {
-        Ok(tables)
-    } else {
-        Err(Stop::Refused(Refusal::NotBuilt(InputFile::Tables)))
     }
 }
 
@@ -50,7 +37,7 @@ pub fn load_contract<S: Shelf>(
     let bytes = load_file(alloc, shelf, name, InputFile::Contract)?;
     match OneLife::read(&bytes, tables) {
         Some(contract) => Ok(contract),
-        None => Err(Stop::Refused(Refusal::NotBuilt(InputFile::Contract))),
+        None => Err(Stop::Refused(Refusal::NotBuilt)),
     }
 }
 

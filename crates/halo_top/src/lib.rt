@@ -5,6 +5,7 @@ mod annuity;
 mod command;
 mod cut;
 mod decimal;
+mod fault_line;
 mod input;
 mod one_life;
 mod program;

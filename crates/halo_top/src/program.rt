@@ -3,6 +3,7 @@ ghost use Rattle.std.specs.Prelude.{◌≡◌, ◌≢◌, ◌≤◌, ◌⊎◌, 
 ghost use Rattle.halo_io.specs.Counts.{Rose};
 ghost use Rattle.halo_io.specs.Told.{AppendsTold, TookPrefix};
 ghost use Rattle.halo_top.specs.Command.{IsCommand};
+ghost use Rattle.halo_top.specs.Refusal.{line_of, status_of};
 ghost use Rattle.halo_top.specs.Verdict.{AnswersCommand, CallsFor, ReadsAll, shelved};
 
 use crate::command::Command;
@@ -30,8 +31,8 @@ const NO_MEMORY: u8 = 9;
 /// | 2 | where the words are no command that is built: `usage: ..` |
 /// | 3 | only where the shelf's count of faults of the file rose: `read fault tables`, `read fault contract` |
 /// | 4 | where the file is longer than its limit: `too long tables`, `too long contract` |
-/// | 5 | where the tables file has another form than the one that is built: `tables NotBuilt` |
-/// | 7 | where the contract file has: `contract NotBuilt` |
+/// | 5 | where the tables file has a fault, with the first faulty record: `tables record R KIND` |
+/// | 7 | where the contract file has another form than the one that is built: `contract NotBuilt` |
 /// | 9 | for want of memory; nothing was written, and the words were a command |
 ///
 /// The two decimals of each line of a report enclose the exact value of the contract that the files
@@ -52,11 +53,11 @@ pub fn run<S: Shelf, K: Sink>(alloc: Global, words: &[String], shelf: &mut S, ou
     ensures usage { (IsCommand (map string_bytes words.now) → ⊥) → (result ≡ 2) ⊎ (result ≡ 1) }
 {
     let Some(command) = Command::read(words) else {
-        return write(Refusal::Usage.line(), Refusal::Usage.status(), out);
+        return refuse(Refusal::Usage, out);
     };
     match answer(alloc, command, shelf) {
         Ok(text) => write(&text, FINE, out),
-        Err(Stop::Refused(refusal)) => write(refusal.line(), refusal.status(), out),
+        Err(Stop::Refused(refusal)) => refuse(refusal, out),
         Err(Stop::Memory) => NO_MEMORY,
     }
 }
@@ -69,6 +70,14 @@ fn answer<S: Shelf>(alloc: Global, command: Command<'_>, shelf: &mut S) -> Resul
     match command {
         Command::Value { tables, contract } => value(alloc, tables, contract, shelf),
     }
+}
+
+// Writes the line of a refusal, and answers its status, or that a write failed.
+fn refuse<K: Sink>(refusal: Refusal, out: &mut K) -> u8
+    ensures written { result ≢ 1 → (result ≡ status_of refusal) × AppendsTold (K.taken out.old) (K.taken out.new) (line_of refusal) }
+    ensures failed { result ≡ 1 → Rose (K.faults out.old) (K.faults out.new) × TookPrefix (K.taken out.old) (K.taken out.new) (line_of refusal) }
+{
+    write(refusal.line().as_bytes(), refusal.status(), out)
 }
 
 // Writes a text, and answers its status, or that a write failed.

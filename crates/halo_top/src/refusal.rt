@@ -1,7 +1,9 @@
-// Why a command writes no answer, with the line and the status of each.
+// Why a command writes no answer, with the status of each.
 ghost use Rattle.std.specs.Prelude.{◌≡◌, ◌≤◌};
 ghost use Rattle.halo_top.specs.Input.{limit_of};
-ghost use Rattle.halo_top.specs.Refusal.{line_of, status_of};
+ghost use Rattle.halo_top.specs.Refusal.{status_of};
+
+use halo_table::TableFault;
 
 /// A file that a command reads.
 #[derive(Clone, Copy, Debug, PartialEq, Eq)]
@@ -32,8 +34,10 @@ pub enum Refusal {
     Read(InputFile),
     /// The file has more bytes than its limit.
     TooLong(InputFile),
-    /// The file has a form that is not valued yet.
-    NotBuilt(InputFile),
+    /// This record of the tables file is the first faulty one.
+    Table(TableFault),
+    /// The contract file has a form that is not valued yet.
+    NotBuilt,
 }
 
 /// Why there is no answer.
@@ -46,22 +50,6 @@ pub enum Stop {
 }
 
 impl Refusal {
-    /// The line that is written, with its line feed.
-    pub fn line(&self) -> &'static [u8]
-        ensures { result.now ≡ line_of self.now }
-    {
-        match self {
-            Refusal::Usage =>
-                b"usage: halo value T C, check T C, compile T C, explain T C, columns T NAME P/Q, sample N\n",
-            Refusal::Read(InputFile::Tables) => b"read fault tables\n",
-            Refusal::Read(InputFile::Contract) => b"read fault contract\n",
-            Refusal::TooLong(InputFile::Tables) => b"too long tables\n",
-            Refusal::TooLong(InputFile::Contract) => b"too long contract\n",
-            Refusal::NotBuilt(InputFile::Tables) => b"tables NotBuilt\n",
-            Refusal::NotBuilt(InputFile::Contract) => b"contract NotBuilt\n",
-        }
-    }
-
     /// The status with which the program ends.
     pub fn status(&self) -> u8
         ensures { result ≡ status_of self.now }
@@ -70,8 +58,8 @@ impl Refusal {
             Refusal::Usage => 2,
             Refusal::Read(_) => 3,
             Refusal::TooLong(_) => 4,
-            Refusal::NotBuilt(InputFile::Tables) => 5,
-            Refusal::NotBuilt(InputFile::Contract) => 7,
+            Refusal::Table(_) => 5,
+            Refusal::NotBuilt => 7,
         }
     }
 }

@@ -16,6 +16,21 @@ const VALUE: &[&str] = &["value", "T", "C"];
 
 const LONG: [u8; 65537] = [b'#'; 65537];
 
+// 65 tables of one row.
+const TABLES_65: &[u8] = b"table,age,l,death\n\
+    t0,0,1,1\nt1,0,1,1\nt2,0,1,1\nt3,0,1,1\nt4,0,1,1\nt5,0,1,1\nt6,0,1,1\nt7,0,1,1\n\
+    t8,0,1,1\nt9,0,1,1\nt10,0,1,1\nt11,0,1,1\nt12,0,1,1\nt13,0,1,1\nt14,0,1,1\nt15,0,1,1\n\
+    t16,0,1,1\nt17,0,1,1\nt18,0,1,1\nt19,0,1,1\nt20,0,1,1\nt21,0,1,1\nt22,0,1,1\nt23,0,1,1\n\
+    t24,0,1,1\nt25,0,1,1\nt26,0,1,1\nt27,0,1,1\nt28,0,1,1\nt29,0,1,1\nt30,0,1,1\nt31,0,1,1\n\
+    t32,0,1,1\nt33,0,1,1\nt34,0,1,1\nt35,0,1,1\nt36,0,1,1\nt37,0,1,1\nt38,0,1,1\nt39,0,1,1\n\
+    t40,0,1,1\nt41,0,1,1\nt42,0,1,1\nt43,0,1,1\nt44,0,1,1\nt45,0,1,1\nt46,0,1,1\nt47,0,1,1\n\
+    t48,0,1,1\nt49,0,1,1\nt50,0,1,1\nt51,0,1,1\nt52,0,1,1\nt53,0,1,1\nt54,0,1,1\nt55,0,1,1\n\
+    t56,0,1,1\nt57,0,1,1\nt58,0,1,1\nt59,0,1,1\nt60,0,1,1\nt61,0,1,1\nt62,0,1,1\nt63,0,1,1\n\
+    t64,0,1,1\n";
+
+// A number of 60,000 digits.
+const DIGITS: [u8; 60_000] = [b'9'; 60_000];
+
 // The number of a call that no run reaches.
 const NEVER: u64 = 1000;
 
@@ -25,6 +40,15 @@ fn words_of(alloc: Global, texts: &[&str]) -> Result<Vec<String>, AllocError> {
         words.push(String::from_str(alloc, text)?)?;
     }
     Ok(words)
+}
+
+// The bytes of some pieces, one behind the other.
+fn joined(alloc: Global, pieces: &[&[u8]]) -> Result<Vec<u8>, AllocError> {
+    let mut bytes = Vec::new(alloc);
+    for piece in pieces {
+        bytes.extend_from_slice(piece)?;
+    }
+    Ok(bytes)
 }
 
 // A shelf of two files, of which a read fails.
@@ -53,12 +77,11 @@ fn sink_of(alloc: Global, failing: u64) -> Result<MemSink, AllocError> {
 fn answers_for_words_and_files(rt: HostRuntime) -> Result<(), Fail> {
     let alloc = rt.alloc();
     // The words, the bytes of the two files, the status, and the text.
-    let rows: [(&[&str], &[u8], &[u8], u8, &[u8]); 9] = [
+    let rows: [(&[&str], &[u8], &[u8], u8, &[u8]); 8] = [
         (VALUE, TABLES, CONTRACT, 0, REPORT),
         (&["value", "T"], TABLES, CONTRACT, 2, USAGE),
         (&[], TABLES, CONTRACT, 2, USAGE),
         (&["check", "T", "C"], TABLES, CONTRACT, 2, USAGE),
-        (VALUE, b"", CONTRACT, 5, b"tables NotBuilt\n"),
         (
             VALUE,
             TABLES,
@@ -85,6 +108,137 @@ fn answers_for_words_and_files(rt: HostRuntime) -> Result<(), Fail> {
     for (words, tables, contract, status, text) in rows {
         let words = words_of(alloc, words)?;
         let mut shelf = shelf_of(alloc, ("T", tables), ("C", contract), NEVER)?;
+        let mut sink = sink_of(alloc, NEVER)?;
+        assert_eq!(rt; run(alloc, &words, &mut shelf, &mut sink), status);
+        assert_eq!(rt; sink.written(), text);
+    }
+    Ok(())
+}
+
+#[test]
+fn answers_for_tables_files(rt: HostRuntime) -> Result<(), Fail> {
+    let alloc = rt.alloc();
+    // The pieces of the tables file, the bytes of the contract file, the status, and the text.
+    let rows: [(&[&[u8]], &[u8], u8, &[u8]); 20] = [
+        (&[b""], CONTRACT, 5, b"tables record 1 Header\n"),
+        (
+            &[b"table,age,l,death\nm,60,4,2\nm,61,2,1\nm,62,1,0\n"],
+            CONTRACT,
+            5,
+            b"tables record 4 Closed\n",
+        ),
+        (
+            &[b"table,age,l,death\nm,60,4,2\nm,61,3,1\nm,62,1,1\n"],
+            CONTRACT,
+            5,
+            b"tables record 3 Decrements\n",
+        ),
+        (
+            &[b"\xef\xbb\xbftable,age,l,death\r\nm,60,4,2\r\n\"m\",\"61\",2,1\r\nm,62,1,1\r\n"],
+            CONTRACT,
+            0,
+            REPORT,
+        ),
+        (
+            &[b"table,age,l,death,lapse\nw,60,4,1,1\nw,61,2,1,1\n"],
+            b"interest 1/1\nlife x w 60\npay 1 ad[x]\n",
+            0,
+            b"pay 1 1.250000000 1.250000000\ntotal 1.250000000 1.250000000\n",
+        ),
+        (
+            &[b"table,age,l,death\nm,60,4,2\nm,61,2,1\nm,62,1,1\nk,0,9,9\n"],
+            CONTRACT,
+            0,
+            REPORT,
+        ),
+        (
+            &[b"table,age,l,death\nk,0,9,9\nm,60,4,2\nm,61,2,1\nm,62,1,1\n"],
+            CONTRACT,
+            0,
+            REPORT,
+        ),
+        (
+            &[b"table,age,l,death\nm,60,4,2\nm,61,2,1\nm,62,1,1"],
+            CONTRACT,
+            0,
+            REPORT,
+        ),
+        (
+            &[b"table,age,l,death\nm,60,4,2\nm,61,2,1\nm,62,1"],
+            CONTRACT,
+            5,
+            b"tables record 4 Fields\n",
+        ),
+        (
+            &[b"table,age,l,death\nm,60,4,2\nm,61,2,1\n"],
+            CONTRACT,
+            5,
+            b"tables record 3 Closed\n",
+        ),
+        (
+            &[b"table,age,l,death,death\nm,60,4,2\nm,61,2,1\nm,62,1,1\n"],
+            CONTRACT,
+            5,
+            b"tables record 1 Header\n",
+        ),
+        (
+            &[b"table,age,l,death\n1m,60,4,2\n1m,61,2,1\n1m,62,1,1\n"],
+            CONTRACT,
+            5,
+            b"tables record 2 Name\n",
+        ),
+        (
+            &[b"table,age,l,death\nm,60,4,2\n1m,61,2,1\nm,62,1,1\n"],
+            CONTRACT,
+            5,
+            b"tables record 2 Closed\n",
+        ),
+        (
+            &[b"table,age,l,death\nm,60,4,2\nm,61,+2,1\nm,62,1,1\n"],
+            CONTRACT,
+            5,
+            b"tables record 3 Number\n",
+        ),
+        (
+            &[b"table,age,l,death\nm,60,4,2\nm,61,2,1\nm,151,1,1\n"],
+            CONTRACT,
+            5,
+            b"tables record 4 Large\n",
+        ),
+        (
+            &[
+                b"table,age,l,death\nm,60,4,2\nm,61,2,1\nm,62,",
+                &DIGITS,
+                b",1\n",
+            ],
+            CONTRACT,
+            5,
+            b"tables record 4 Large\n",
+        ),
+        (
+            &[b"table,age,l,death\nm,60,4,2\nm,61,2,1\nm,62,1,1\nk,0,1,1\nm,0,1,1\n"],
+            CONTRACT,
+            5,
+            b"tables record 6 Again\n",
+        ),
+        (&[TABLES_65], CONTRACT, 5, b"tables record 66 TooMany\n"),
+        (
+            &[b"table,age,l,c0,c1,c2,c3,c4,c5,c6,c7,c8\n"],
+            CONTRACT,
+            5,
+            b"tables record 1 TooMany\n",
+        ),
+        (
+            &[b"table,age,l,death\nm,60,4,2\nm,61,2,1\nm,63,1,1\n"],
+            CONTRACT,
+            5,
+            b"tables record 4 Age\n",
+        ),
+    ];
+    let words = words_of(alloc, VALUE)?;
+    for (tables, contract, status, text) in rows {
+        let tables = joined(alloc, tables)?;
+        let mut shelf = shelf_of(alloc, ("T", &tables), ("C", contract), NEVER)?;
         let mut sink = sink_of(alloc, NEVER)?;
         assert_eq!(rt; run(alloc, &words, &mut shelf, &mut sink), status);
         assert_eq!(rt; sink.written(), text);

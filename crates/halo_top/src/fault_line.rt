@@ -1,0 +1,72 @@
+// The line that a refusal writes, made without memory.
+ghost use Rattle.std.specs.Prelude.{◌≡◌, ◌≤◌, length};
+ghost use Rattle.halo_top.specs.Refusal.{file_word, kind_word, line_of};
+
+use crate::refusal::{InputFile, Refusal};
+use arrayvec::ArrayString;
+use halo_table::TableKind;
+use itoa::Buffer;
+
+/// A line of text with its line feed, at most 96 bytes.
+pub type Line = ArrayString<96>;
+
+impl Refusal {
+    /// The line that is written, with its line feed.
+    pub fn line(&self) -> Line
+        ensures { result.bytes ≡ line_of self.now }
+    {
+        let mut line = Line::new();
+        match self {
+            Refusal::Usage => line.push_str(
+                "usage: halo value T C, check T C, compile T C, explain T C, columns T NAME P/Q, sample N",
+            ),
+            Refusal::Read(file) => {
+                line.push_str("read fault ");
+                line.push_str(word_of_file(*file));
+            }
+            Refusal::TooLong(file) => {
+                line.push_str("too long ");
+                line.push_str(word_of_file(*file));
+            }
+            Refusal::Table(fault) => {
+                line.push_str("tables record ");
+                line.push_str(Buffer::new().format(fault.row));
+                line.push_str(" ");
+                line.push_str(word_of_kind(fault.kind));
+            }
+            Refusal::NotBuilt => line.push_str("contract NotBuilt"),
+        }
+        line.push_str("\n");
+        line
+    }
+}
+
+// The word for a file.
+fn word_of_file(file: InputFile) -> &'static str
+    ensures word { result.now ≡ file_word file }
+    ensures short { length result.now ≤ 8 }
+{
+    match file {
+        InputFile::Tables => "tables",
+        InputFile::Contract => "contract",
+    }
+}
+
+// The word for what is wrong with a record of a tables file.
+fn word_of_kind(kind: TableKind) -> &'static str
+    ensures word { result.now ≡ kind_word kind }
+    ensures short { length result.now ≤ 10 }
+{
+    match kind {
+        TableKind::Header => "Header",
+        TableKind::Fields => "Fields",
+        TableKind::Name => "Name",
+        TableKind::Number => "Number",
+        TableKind::Large => "Large",
+        TableKind::Again => "Again",
+        TableKind::TooMany => "TooMany",
+        TableKind::Age => "Age",
+        TableKind::Decrements => "Decrements",
+        TableKind::Closed => "Closed",
+    }
+}
