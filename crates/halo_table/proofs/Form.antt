@@ -1,11 +1,10 @@
 -- The form that is accepted so far is that of no fault, one cause and one table.
-use Rattle.std.proofs.Common.{add-one, ◌≡◌, ◌⊎◌, ◌↔◌, ℕ, zero, suc, ◌+◌, ◌-◌, ◌<◌, ◌≤◌, List, [], ◌∷◌, Bool, true, false, arith, ap, drop, get_or, inl, inr, length, map, refl, sym, ◌∙◌, length-drop}
+use Rattle.std.proofs.Common.{add-one, ◌≡◌, ◌⊎◌, ◌↔◌, ℕ, zero, suc, ◌+◌, ◌-◌, ◌<◌, ◌≤◌, List, [], ◌∷◌, Bool, true, false, arith, ap, drop, inl, inr, length, map, refl, sym, ◌∙◌, length-drop}
 use Rattle.std.specs.Prelude.{◌==◌, bytes_eq}
 use Rattle.std.proofs.lemmas.Bool.{cases_lt}
 use Rattle.std.proofs.lemmas.List.{drop_all, get_or-drop}
-use Rattle.std.proofs.lemmas.List.Elements.{All-from_get_or, All-get_or}
 use Rattle.std.proofs.lemmas.Slice.Eq.{bytes_eq-Decides}
-use Rattle.halo_text.specs.Number.{IsDigit, IsNumber, number}
+use Rattle.halo_text.specs.Number.{IsNumber, number}
 use Rattle.halo_table.specs.DecrementTable.{DecrementTable}
 use Rattle.halo_table.specs.Faults.{Continues, Holds, NoFault, names_before}
 use Rattle.halo_table.specs.FirstForm.{FollowsRow, HasFirstForm, IsPlain, IsPlainRow}
@@ -13,8 +12,10 @@ use Rattle.halo_table.specs.Grouping.{grouped, tables_of, with_record}
 use Rattle.halo_table.specs.Record.{IsHeader, all_leavers, field, greatest_at, record_at}
 use Rattle.halo_table.specs.declared.fault.TableKind.{TableKind}
 use Rattle.halo_table.specs.declared.fault.TableKind.TheVariants as kind
+use Rattle.std.proofs.Math.Decide.{ℕ_discrete}
+use Rattle.halo_table.proofs.Deciding.{dec_header, dec_number, stable}
 use Rattle.halo_table.proofs.Groups.{rows_none}
-use Rattle.halo_table.proofs.Soundness.{Front, front, next_facts, row_facts, stable_equal, stable_header}
+use Rattle.halo_table.proofs.Soundness.{Front, front, next_facts, row_facts}
 use Rattle.halo_table.proofs.Walk.{not_one}
 
 -- a row of four fields has the leavers of one cause
@@ -25,19 +26,6 @@ one_leavers (a ∷ b ∷ []) e = absurd (omega arith)
 one_leavers (a ∷ b ∷ c ∷ []) e = absurd (omega arith)
 one_leavers (a ∷ b ∷ c ∷ d ∷ []) e = omega arith
 one_leavers (a ∷ b ∷ c ∷ d ∷ x ∷ rest) e = absurd (omega arith)
-
--- bytes of which it is absurd that they are no number are one
-stable_number : (text : List ℕ) → ((IsNumber text → ⊥) → ⊥) → IsNumber text
-stable_number text h = (some, All-from_get_or IsDigit text 0 (λ i lt. (low i lt, high i lt)))
-  where
-    some : 0 < length text
-    some = elim (cases_lt 0 (length text)) [ inl lt ↦ lt | inr le ↦ absurd (h (λ n. let s = n.0 in absurd (omega arith))) ]
-
-    low : (i : ℕ) → i < length text → 48 ≤ get_or text i 0
-    low i lt = elim (cases_lt (get_or text i 0) 48) [ inl small ↦ absurd (h (λ n. let d = (All-get_or IsDigit text i 0 lt n.1).0 in absurd (omega arith))) | inr le ↦ le ]
-
-    high : (i : ℕ) → i < length text → get_or text i 0 ≤ 57
-    high i lt = elim (cases_lt 57 (get_or text i 0)) [ inl large ↦ absurd (h (λ n. let d = (All-get_or IsDigit text i 0 lt n.1).1 in absurd (omega arith))) | inr le ↦ le ]
 
 -- where there is one table, each row has the name of the row before
 one_name : (rows : List (List (List ℕ))) → length (grouped rows) ≡ 1 → (i : ℕ) → suc i < length rows → field (record_at rows (suc i)) 0 ≡ field (record_at rows i) 0
@@ -81,7 +69,7 @@ form_of_plain all (fine, plain) = record {
 }
   where
     header : IsHeader (record_at all 0)
-    header = stable_header (record_at all 0) (λ no. fine.1 0 fine.0 kind.Header (refl, no))
+    header = stable (dec_header (record_at all 0)) (λ no. fine.1 0 fine.0 kind.Header (refl, no))
 
     one_cause : length (record_at all 0) ≡ 4
     one_cause = let causes = plain.0 in let four = header.four in omega (arith, length-drop 3 (record_at all 0))
@@ -90,7 +78,7 @@ form_of_plain all (fine, plain) = record {
     some = elim (cases_lt 1 (length all)) [ inl lt ↦ lt | inr le ↦ (let none = rw (drop_all 1 all le) at plain.1 in absurd (omega arith)) ]
 
     number_at : (i : ℕ) → 1 ≤ i → i < length all → (j : ℕ) → 1 ≤ j → j < length (record_at all i) → IsNumber (field (record_at all i) j)
-    number_at i low lt j from to = stable_number (field (record_at all i) j) (λ no. fine.1 i lt kind.Number (omega arith, (j, from, to, no)))
+    number_at i low lt j from to = stable (dec_number (field (record_at all i) j)) (λ no. fine.1 i lt kind.Number (omega arith, (j, from, to, no)))
 
     row : (i : ℕ) → 1 ≤ i → i < length all → IsPlainRow (record_at all i)
     row i low lt =
@@ -124,7 +112,7 @@ form_of_plain all (fine, plain) = record {
     closed i end =
         let more = some in
         let one = one_leavers (record_at all i) (row i (omega arith) (omega arith)).four in
-        let all_leave = stable_equal (number (field (record_at all i) 2)) (all_leavers (record_at all i)) (λ no. fine.1 i (omega arith) kind.Closed (omega arith, (λ lt q. absurd (omega arith)), no)) in
+        let all_leave = stable (ℕ_discrete (number (field (record_at all i) 2)) (all_leavers (record_at all i))) (λ no. fine.1 i (omega arith) kind.Closed (omega arith, (λ lt q. absurd (omega arith)), no)) in
         omega arith
 
 -- what holds of a row of one table beside the record before it

@@ -1,13 +1,9 @@
 -- The form of the tables files that are accepted so far: one cause and one table.
-use Rattle.std.specs.Prelude.{◌≡◌, ℕ, ◌+◌, ◌<◌, ◌≤◌, List, length, Result, Ok, Err, ⊤}
+use Rattle.std.specs.Prelude.{◌≡◌, ℕ, ◌+◌, ◌<◌, ◌≤◌, List, length}
 use Rattle.halo_text.specs.Name.{IsName}
 use Rattle.halo_text.specs.Number.{IsNumber, number}
 use Rattle.halo_table.specs.DecrementTable.{TableFile}
-use Rattle.halo_table.specs.Grouping.{tables_of}
 use Rattle.halo_table.specs.Record.{IsHeader, field, record_at}
-use Rattle.halo_table.specs.declared.fault.TableKind.TheVariants as kind
-use Rattle.halo_table.specs.declared.fault.TablesError.{TablesError}
-use Rattle.halo_table.specs.declared.fault.TablesError.TheVariants as error
 
 -- a row: a name, an age of at most 150, survivors from 1 to 10^12, and leavers, no more than the survivors
 pub record IsPlainRow (fields : List (List ℕ)) : Type 0 where
