@@ -1,13 +1,12 @@
 -- The tables of a file without fault are sound.
 use Rattle.std.proofs.Common.{add-one, ◌≡◌, ◌≢◌, ℕ, zero, suc, ◌+◌, ◌-◌, ◌<◌, ◌≤◌, ◌⊎◌, List, [], ◌∷◌, ◌++◌, Bool, true, false, arith, ap, drop, get_or, inl, inr, length, map, refl, sym, ◌∙◌, length-drop}
-use Rattle.std.specs.Prelude.{◌==◌, All, Contains, bytes_eq, codes}
-use Rattle.std.specs.Char.{is_ascii_alphabetic}
+use Rattle.std.specs.Prelude.{◌==◌, All, Contains, bytes_eq}
 use Rattle.std.proofs.lemmas.Bool.{cases_lt}
 use Rattle.std.proofs.lemmas.List.{get_or_append_left, get_or_default, get_or_push, length_push, get_or-drop, length-map, take_all}
-use Rattle.std.proofs.lemmas.List.Elements.{All-cons, All-from_get_or, All-get_or, All-head, All-nil, All-tail}
+use Rattle.std.proofs.lemmas.List.Elements.{All-cons, All-from_get_or, All-head, All-nil, All-tail}
 use Rattle.std.proofs.lemmas.List.Sums.{sum-map}
 use Rattle.std.proofs.lemmas.Slice.Eq.{bytes_eq-Decides}
-use Rattle.halo_text.specs.Name.{IsName, is_name_byte}
+use Rattle.halo_text.specs.Name.{IsName}
 use Rattle.halo_text.specs.Number.{number}
 use Rattle.halo_table.specs.DecrementTable.{DecrementRow, DecrementTable}
 use Rattle.halo_table.specs.Faults.{Clean, Continues, Holds, NoFault, names_before}
@@ -15,22 +14,10 @@ use Rattle.halo_table.specs.Grouping.{grouped, one_row_table, tables_of, with_re
 use Rattle.halo_table.specs.Record.{IsHeader, all_leavers, field, record_at}
 use Rattle.halo_table.specs.Sound.{AreApart, IsSound, IsSoundRow, IsSoundTable}
 use Rattle.halo_table.specs.declared.fault.TableKind.TheVariants as kind
+use Rattle.std.proofs.Math.Decide.{ℕ_discrete}
+use Rattle.halo_table.proofs.Deciding.{dec_header, dec_name, stable}
 use Rattle.halo_table.proofs.Groups.{names_first, names_new, names_same, rows_none}
 use Rattle.halo_table.proofs.Walk.{next_is, not_one}
-
--- a test that is not false is true
-stable_test : (b : Bool) → ((b ≡ true → ⊥) → ⊥) → b ≡ true
-stable_test true h = refl
-stable_test false h = absurd (h (λ e. cc e))
-
--- bytes of which it is absurd that they are no name are one
-stable_name : (text : List ℕ) → ((IsName text → ⊥) → ⊥) → IsName text
-stable_name text h = record {
-  some = elim (cases_lt 0 (length text)) [ inl lt ↦ lt | inr le ↦ absurd (h (λ n. let s = n.some in absurd (omega arith))) ];
-  short = elim (cases_lt 32 (length text)) [ inl lt ↦ absurd (h (λ n. let s = n.short in absurd (omega arith))) | inr le ↦ le ];
-  letter = stable_test (is_ascii_alphabetic (get_or text 0 0)) (λ no. h (λ n. no n.letter));
-  bytes = All-from_get_or (λ byte. is_name_byte byte ≡ true) text 0 (λ i lt. stable_test (is_name_byte (get_or text i 0)) (λ no. h (λ n. no (All-get_or (λ byte. is_name_byte byte ≡ true) text i 0 lt n.bytes))));
-}
 
 -- what is known of a row of a file without fault, where record 1 has so many fields
 pub record RowFacts (width : ℕ) (row : List (List ℕ)) : Type 0 where
@@ -43,18 +30,12 @@ pub record RowFacts (width : ℕ) (row : List (List ℕ)) : Type 0 where
 
 pub row_facts : (all : List (List (List ℕ))) (i : ℕ) → 1 ≤ i → 4 ≤ length (record_at all 0) → ((k : _) → Holds all i k → ⊥) → RowFacts (length (record_at all 0)) (record_at all i)
 row_facts all i some four clean =
-    let width : length (record_at all i) ≡ length (record_at all 0) = elim (cases_lt (length (record_at all i)) (length (record_at all 0))) [
-      | inl lt ↦ absurd (clean kind.Fields (omega arith, (λ e. absurd (omega arith))))
-      | inr le ↦ elim (cases_lt (length (record_at all 0)) (length (record_at all i))) [
-        | inl lt ↦ absurd (clean kind.Fields (omega arith, (λ e. absurd (omega arith))))
-        | inr ge ↦ omega arith
-      ]
-    ] in
+    let width : length (record_at all i) ≡ length (record_at all 0) = stable (ℕ_discrete _ _) (λ no. clean kind.Fields (omega arith, no)) in
     let off : (number (field (record_at all i) 2) ≡ 0) ⊎ (number (field (record_at all i) 2) < all_leavers (record_at all i)) → ⊥ =
     (λ x. clean kind.Decrements (omega arith, elim x [ inl a ↦ inl a | inr b ↦ inr (inl b) ])) in
     record {
       fields = width;
-      named = stable_name (field (record_at all i) 0) (λ no. clean kind.Name (omega arith, no));
+      named = stable (dec_name (field (record_at all i) 0)) (λ no. clean kind.Name (omega arith, no));
       age = elim (cases_lt 150 (number (field (record_at all i) 1))) [ inl lt ↦ absurd (clean kind.Large (omega arith, (1, omega arith, omega arith, lt))) | inr le ↦ le ];
       some = elim (cases_lt 0 (number (field (record_at all i) 2))) [ inl lt ↦ omega arith | inr le ↦ absurd (off (inl (omega arith))) ];
       small = elim (cases_lt 1000000000000 (number (field (record_at all i) 2))) [ inl lt ↦ absurd (clean kind.Large (omega arith, (2, omega arith, omega arith, lt))) | inr le ↦ le ];
@@ -120,21 +101,14 @@ pub record NextFacts (row next : List (List ℕ)) : Type 0 where
   pub up : field row 0 ≡ field next 0 → number (field next 1) ≡ number (field row 1) + 1
   pub falls : field row 0 ≡ field next 0 → number (field next 2) ≡ number (field row 2) - all_leavers row
 
--- numbers of which it is absurd that they differ are equal
-pub stable_equal : (a b : ℕ) → (a ≢ b → ⊥) → a ≡ b
-stable_equal a b h = elim (cases_lt a b) [
-  | inl lt ↦ absurd (h (λ e. absurd (omega arith)))
-  | inr le ↦ elim (cases_lt b a) [ inl lt ↦ absurd (h (λ e. absurd (omega arith))) | inr ge ↦ omega arith ]
-]
-
 -- so it is in a file without fault
 pub next_facts : (all : List (List (List ℕ))) (i : ℕ) → 1 ≤ i → ((k : _) → Holds all (i + 1) k → ⊥) → NextFacts (record_at all i) (record_at all (i + 1))
 next_facts all i some clean =
     let back : i + 1 - 1 ≡ i = omega arith in
     let follows : field (record_at all i) 0 ≡ field (record_at all (i + 1)) 0 → Continues (i + 1 == 1) (record_at all (i + 1 - 1)) (record_at all (i + 1)) = (λ e. (not_one (i + 1) (omega arith), rw back e)) in
     record {
-      up = (λ e. stable_equal _ _ (λ no. clean kind.Age (omega arith, (follows e, rw back no))));
-      falls = (λ e. stable_equal _ _ (λ no. clean kind.Decrements (omega arith, inr (inr (follows e, rw back no)))));
+      up = (λ e. stable (ℕ_discrete _ _) (λ no. clean kind.Age (omega arith, (follows e, rw back no))));
+      falls = (λ e. stable (ℕ_discrete _ _) (λ no. clean kind.Decrements (omega arith, inr (inr (follows e, rw back no)))));
     }
 
 -- the tables of the records from a place on are sound
@@ -145,7 +119,7 @@ sound_from all four clean (row ∷ []) i some e =
     let (room, here, behind) = next_is all [] row i e in
     let facts = row_facts all i some four (clean i room) in
     let end : length all ≤ i + 1 = let h = ap length behind in omega (arith, length-drop (i + 1) all) in
-    let closed = stable_equal (number (field (record_at all i) 2)) (all_leavers (record_at all i)) (λ no. clean i room kind.Closed (omega arith, (λ lt q. absurd (omega arith)), no)) in
+    let closed = stable (ℕ_discrete (number (field (record_at all i) 2)) (all_leavers (record_at all i))) (λ no. clean i room kind.Closed (omega arith, (λ lt q. absurd (omega arith)), no)) in
     All-cons (IsSoundTable (length (record_at all 0) - 3)) (one_row_table row) [] (sound_one (length (record_at all 0)) row (rw here at facts) (rw here at closed)) (All-nil (IsSoundTable (length (record_at all 0) - 3)))
 sound_from all four clean (row ∷ next ∷ rest) i some e =
     let (room, here, behind) = next_is all (next ∷ rest) row i e in
@@ -154,7 +128,7 @@ sound_from all four clean (row ∷ next ∷ rest) i some e =
     let after = rw (here, here2) at (next_facts all i some (clean (i + 1) room2)) in
     let more = sound_from all four clean (next ∷ rest) (i + 1) (omega arith) behind in
     step (length (record_at all 0)) row next (grouped (next ∷ rest)) facts after (front next (grouped rest)) more
-    (λ no. stable_equal (number (field row 2)) (all_leavers row) (λ differ. clean i room kind.Closed (omega arith, (λ lt q. no (sym (rw (here, here2) at q))), rw here differ)))
+    (λ no. stable (ℕ_discrete (number (field row 2)) (all_leavers row)) (λ differ. clean i room kind.Closed (omega arith, (λ lt q. no (sym (rw (here, here2) at q))), rw here differ)))
   where
     step : (width : ℕ) (row next : List (List ℕ)) (tables : List DecrementTable) → RowFacts width row → NextFacts row next → Front next tables → All (IsSoundTable (width - 3)) tables
         → ((field row 0 ≡ field next 0 → ⊥) → number (field row 2) ≡ all_leavers row) → All (IsSoundTable (width - 3)) (with_record row tables)
@@ -249,29 +223,6 @@ sound_tables all header fine =
         let h = names_known all (length all - 1) fine.1 (omega arith) in
         rw (end, take_all (length all) all (omega arith)) at h
 
--- a record 1 of which it is absurd that it is none is one
-pub stable_header : (fields : List (List ℕ)) → ((IsHeader fields → ⊥) → ⊥) → IsHeader fields
-stable_header fields h = record {
-  four = stable_below 4 (length fields) (λ no. h (λ x. no x.four));
-  table = stable_bytes (field fields 0) (codes "table") (λ no. h (λ x. no x.table));
-  age = stable_bytes (field fields 1) (codes "age") (λ no. h (λ x. no x.age));
-  survivors = stable_bytes (field fields 2) (codes "l") (λ no. h (λ x. no x.survivors));
-  causes = (λ j low high. record {
-    name = stable_name (field fields j) (λ no. h (λ x. no (x.causes j low high).name));
-    apart = (λ i from less e. h (λ x. (x.causes j low high).apart i from less e));
-  });
-}
-  where
-    stable_below : (a b : ℕ) → ((a ≤ b → ⊥) → ⊥) → a ≤ b
-    stable_below a b h = elim (cases_lt b a) [ inl lt ↦ absurd (h (λ le. absurd (omega arith))) | inr le ↦ le ]
-
-    stable_bytes : (xs ys : List ℕ) → (xs ≢ ys → ⊥) → xs ≡ ys
-    stable_bytes xs ys h = go (bytes_eq xs ys) refl
-      where
-        go : (p : Bool) → bytes_eq xs ys ≡ p → xs ≡ ys
-        go true e = (bytes_eq-Decides xs ys).0 e
-        go false e = absurd (h (λ q. cc ((bytes_eq-Decides xs ys).1 q)))
-
 -- the tables of a file without fault are sound
 pub sound_of_fine : (all : List (List (List ℕ))) → NoFault all → IsSound (tables_of all)
-sound_of_fine all fine = sound_tables all (stable_header (record_at all 0) (λ no. fine.1 0 fine.0 kind.Header (refl, no))) fine
+sound_of_fine all fine = sound_tables all (stable (dec_header (record_at all 0)) (λ no. fine.1 0 fine.0 kind.Header (refl, no))) fine

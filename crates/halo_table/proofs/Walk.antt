@@ -12,6 +12,7 @@ use Rattle.halo_table.specs.Reading.{AreRowNumbers, IsLeftOpen}
 use Rattle.halo_table.specs.declared.row.RowNumbers.{RowNumbers}
 use Rattle.halo_table.specs.declared.fault.TableKind.{TableKind}
 use Rattle.halo_table.specs.declared.fault.TableKind.TheVariants as kind
+use Rattle.halo_table.proofs.KindOrder.{rank_most}
 
 -- the next record of a list
 pub next_is : (all rest : List (List (List ℕ))) (r : List (List ℕ)) (i : ℕ) → drop i all ≡ r ∷ rest → (i < length all) × (record_at all i ≡ r) × (drop (i + 1) all ≡ rest)
@@ -124,19 +125,6 @@ from_holds all n some kind.Age b x = x.1
 from_holds all n some kind.Decrements b x = x.1
 from_holds all n some kind.Closed b x = absurd (b refl)
 
--- `Closed` comes last of the kinds that hold of a row beside the record before it
-step_rank : (all : List (List (List ℕ))) (n : ℕ) (k : TableKind) → StepOf all n k → rank k ≤ 10
-step_rank all n kind.Header x = omega arith
-step_rank all n kind.Fields x = omega arith
-step_rank all n kind.Name x = omega arith
-step_rank all n kind.Number x = omega arith
-step_rank all n kind.Large x = omega arith
-step_rank all n kind.Again x = omega arith
-step_rank all n kind.TooMany x = omega arith
-step_rank all n kind.Age x = omega arith
-step_rank all n kind.Decrements x = omega arith
-step_rank all n kind.Closed x = omega arith
-
 -- the next record has a fault, told by its number
 step_fault_at : (all : List (List (List ℕ))) (n m : ℕ) (k : TableKind) → 1 ≤ n → n < length all → m ≡ n + 1 → Clean all n → IsFirst (StepOf all n) k → IsFirstFault all m k
 step_fault_at all n m k some room e clean f =
@@ -149,7 +137,7 @@ step_fault_at all n m k some room e clean f =
     }
   where
     first : (k : TableKind) → IsFirst (StepOf all n) k → IsFirst (Holds all n) k
-    first k f = record { here = to_holds all n some k f.here; none_before = (λ j lt x. f.none_before j lt (from_holds all n some j (λ q. absurd (omega (arith, step_rank all n k f.here, ap rank q))) x)) }
+    first k f = record { here = to_holds all n some k f.here; none_before = (λ j lt x. f.none_before j lt (from_holds all n some j (λ q. absurd (omega (arith, rank_most k, ap rank q))) x)) }
 
 -- the next record has none by itself, told by its number
 step_fine_at : (all : List (List (List ℕ))) (n m : ℕ) → 1 ≤ n → m ≡ n + 1 → Clean all n → ((k : TableKind) → StepOf all n k → ⊥) → ReadSoFar all m

@@ -1,5 +1,5 @@
 // Laws of the definitions: functions that do nothing, whose contracts are the laws.
-ghost use Rattle.halo_table.specs.Laws.{FirstFaultIsOne, NoFaultIsFirst, TablesAreSound};
+ghost use Rattle.halo_table.specs.Laws.{FirstFaultIsOne, NoFaultIsFirst, NoFaultOrFirst, TablesAreSound};
 
 /// A file has at most one first fault: one record, and one kind there.
 pub fn first_fault_is_one()
@@ -9,6 +9,11 @@ pub fn first_fault_is_one()
 /// A file without fault has no first fault.
 pub fn no_fault_is_first()
     ensures { NoFaultIsFirst }
+{}
+
+/// Every file has no fault, and so its tables, or a first fault.
+pub fn no_fault_or_first()
+    ensures { NoFaultOrFirst }
 {}
 
 /// What a file without fault holds is sound: names and ages are as they have to be, no two
