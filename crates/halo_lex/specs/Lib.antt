@@ -1,1 +1,3 @@
 pub mod Lexeme
+pub mod Run
+pub mod Words

@@ -1,2 +1,10 @@
-//! The words of a line, and the names, numbers and single bytes that a word is cut into.
+//! The words of a line, which are separated by spaces and tabs.
 #![tactic(auto)]
+
+mod line;
+mod memory;
+#[cfg(test)]
+mod tests;
+
+pub use line::{Span, words};
+pub use memory::Memory;
