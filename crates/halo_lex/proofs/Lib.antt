@@ -1,0 +1,4 @@
+pub mod Runs
+pub mod Lexing
+pub mod Next
+pub mod Cutting

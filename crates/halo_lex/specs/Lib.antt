@@ -1,3 +1,4 @@
 pub mod Lexeme
 pub mod Run
+pub mod Cut
 pub mod Words
