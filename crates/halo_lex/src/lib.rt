@@ -7,6 +7,7 @@
 #![tactic(auto)]
 
 mod cut;
+pub mod laws;
 mod line;
 mod memory;
 #[cfg(test)]
