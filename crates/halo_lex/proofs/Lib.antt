@@ -1,0 +1,6 @@
+pub mod Runs
+pub mod Lexing
+pub mod Next
+pub mod Cutting
+pub mod Tiling
+pub mod Splitting

@@ -1,0 +1,5 @@
+pub mod Lexeme
+pub mod Run
+pub mod Cut
+pub mod Words
+pub mod Laws
