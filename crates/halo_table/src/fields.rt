@@ -1,11 +1,13 @@
 // The records of a tables file and their fields.
-ghost use Rattle.std.specs.Prelude.{◌≡◌, ◌↔◌, IsTrue, ℕ, ◌≤◌};
+ghost use Rattle.std.specs.Prelude.{◌≡◌, ◌↔◌, IfOk, IsTrue, ℕ, ◌≤◌, ◌<◌, length};
 ghost use Rattle.csv.specs.Records.{fields_of};
 ghost use Rattle.halo_text.specs.Number.{ReadsNumber};
 ghost use Rattle.halo_table.specs.Record.{IsHeader, IsNewCause, field, greatest_at};
 
 use csv::ByteRecord;
 use halo_text::{NumberFault, is_name, number_up_to};
+use std::alloc::{AllocError, Global};
+use std::collections::BTreeSet;
 
 /// The place of a table's name in a row.
 pub const NAME: usize = 0;
@@ -47,36 +49,37 @@ pub fn number_at(fields: &ByteRecord, place: usize) -> Result<u64, NumberFault>
     number_up_to(cell(fields, place), limit)
 }
 
-// Whether a cause of record 1 is a name, and no earlier cause has it.
-fn is_new_cause(fields: &ByteRecord, place: usize) -> bool
-    ensures { IsTrue result ↔ IsNewCause (fields_of fields.now) place }
+// Whether the causes of record 1 are names, no two of them equal. The earlier ones are kept in
+// order, since a file may name millions of causes, too many to compare each with each.
+fn are_new_causes(alloc: Global, fields: &ByteRecord) -> Result<bool, AllocError>
+    ensures { IfOk result (λ answer. IsTrue answer ↔ ((j : ℕ) → 3 ≤ j
+        → j < length (fields_of fields.now) → IsNewCause (fields_of fields.now) j)) }
 {
-    if !is_name(cell(fields, place)) {
-        return false;
-    }
-    for earlier in FIRST_CAUSE..place {
-        if cell(fields, earlier) == cell(fields, place) {
-            return false;
+    let mut earlier = BTreeSet::new(alloc);
+    for place in FIRST_CAUSE..fields.len() {
+        let cause = cell(fields, place);
+        if !is_name(cause) {
+            return Ok(false);
+        }
+        let is_new = earlier.insert(cause)?;
+        if !is_new {
+            return Ok(false);
         }
     }
-    true
+    Ok(true)
 }
 
-/// Whether this can be record 1: `table`, `age`, `l` and one or more different names.
-pub fn is_header(fields: &ByteRecord) -> bool
-    ensures { IsTrue result ↔ IsHeader (fields_of fields.now) }
+/// Whether this can be record 1: `table`, `age`, `l` and one or more different names. It takes
+/// memory for the names.
+pub fn is_header(alloc: Global, fields: &ByteRecord) -> Result<bool, AllocError>
+    ensures { IfOk result (λ answer. IsTrue answer ↔ IsHeader (fields_of fields.now)) }
 {
     if fields.len() <= FIRST_CAUSE
         || cell(fields, NAME) != b"table".as_slice()
         || cell(fields, AGE) != b"age".as_slice()
         || cell(fields, SURVIVORS) != b"l".as_slice()
     {
-        return false;
+        return Ok(false);
     }
-    for place in FIRST_CAUSE..fields.len() {
-        if !is_new_cause(fields, place) {
-            return false;
-        }
-    }
-    true
+    are_new_causes(alloc, fields)
 }

@@ -42,7 +42,10 @@ fn read_header(alloc: Global, source: &mut Records) -> Result<ByteRecord, Tables
     if !found {
         return Err(fault_at(1, TableKind::Header));
     }
-    if !is_header(&header) {
+    let Ok(is_accepted) = is_header(alloc, &header) else {
+        return Err(TablesError::Memory);
+    };
+    if !is_accepted {
         return Err(fault_at(1, TableKind::Header));
     }
     if header.len() > MOST_FIELDS {
