@@ -1,0 +1,2 @@
+//! Symbols and statuses of the halo notation, read from words.
+#![tactic(auto)]
