@@ -4,41 +4,41 @@ use Rattle.std.specs.Prelude.{ℕ, zero, suc, List, [], ◌∷◌, ◌++◌, cod
 use Rattle.halo_status.specs.declared.pay.Kind.{Kind}
 use Rattle.halo_status.specs.declared.pay.Kind.TheVariants.{Insurance, Immediate, Due}
 use Rattle.halo_parse.specs.Characters.{round_open, round_close, comma, slash, colon, angle_open, angle_close, letter_D, letter_I, square_open, square_close, caret, brace_open, stroke, brace_close, bar_text}
-use Rattle.halo_parse.specs.Tree.{Node, life, term, last, at_least, exactly, group, after, Others, no_more, and, Body, list, reversion}
+use Rattle.halo_parse.specs.Tree.{Node, life, term, last, at_least, exactly, group, Members, one, and, Body, list, reversion}
 use Rattle.halo_parse.specs.Symbol.{Vary, level, increasing, decreasing, Names, Mark, Symbol}
 
 abbrev mutual
-  -- a member, and then the rest
+  -- a member
   pub node_bytes : Node → List ℕ → List ℕ
   node_bytes (life name) rest = name ++ rest
   node_bytes (term years) rest = angle_open ∷ (years ++ (angle_close ∷ rest))
-  node_bytes (last m ms) rest = bar_text ++ (round_open ∷ node_bytes m (others_bytes ms (round_close ∷ rest)))
-  node_bytes (at_least rank m ms) rest = rank ++ (slash ∷ round_open ∷ node_bytes m (others_bytes ms (round_close ∷ rest)))
-  node_bytes (exactly rank m ms) rest = square_open ∷ (rank ++ (square_close ∷ slash ∷ round_open ∷ node_bytes m (others_bytes ms (round_close ∷ rest))))
-  node_bytes (group m ms) rest = round_open ∷ node_bytes m (others_bytes ms (round_close ∷ rest))
-  node_bytes (after m ms n ns) rest = round_open ∷ node_bytes m (others_bytes ms (stroke ∷ node_bytes n (others_bytes ns (round_close ∷ rest))))
+  node_bytes (last ms) rest = bar_text ++ (round_open ∷ members_bytes ms (round_close ∷ rest))
+  node_bytes (at_least rank ms) rest = rank ++ (slash ∷ round_open ∷ members_bytes ms (round_close ∷ rest))
+  node_bytes (exactly rank ms) rest = square_open ∷ (rank ++ (square_close ∷ slash ∷ round_open ∷ members_bytes ms (round_close ∷ rest)))
+  node_bytes (group body) rest = round_open ∷ body_bytes body (round_close ∷ rest)
 
-  -- the members behind the first of a list, each behind a `:`
-  pub others_bytes : Others → List ℕ → List ℕ
-  others_bytes no_more rest = rest
-  others_bytes (and m ms) rest = colon ∷ node_bytes m (others_bytes ms rest)
+  -- a list, with `:` between its members
+  pub members_bytes : Members → List ℕ → List ℕ
+  members_bytes (one m) rest = node_bytes m rest
+  members_bytes (and m ms) rest = node_bytes m (colon ∷ members_bytes ms rest)
 
--- a body with no mark
-abbrev pub body_bytes : Body → List ℕ → List ℕ
-body_bytes (list m ms) rest = node_bytes m (others_bytes ms rest)
-body_bytes (reversion m ms n ns) rest = node_bytes m (others_bytes ms (stroke ∷ node_bytes n (others_bytes ns rest)))
+  -- a body with no mark
+  pub body_bytes : Body → List ℕ → List ℕ
+  body_bytes (list ms) rest = members_bytes ms rest
+  body_bytes (reversion ms ns) rest = members_bytes ms (stroke ∷ members_bytes ns rest)
 
 -- a list with `^` and a rank behind the member at a place, which is one of the list's
-abbrev pub marked_bytes : ℕ → List ℕ → Node → Others → List ℕ → List ℕ
-marked_bytes zero rank m ms rest = node_bytes m (caret ∷ (rank ++ others_bytes ms rest))
-marked_bytes (suc place) rank m no_more rest = node_bytes m rest
-marked_bytes (suc place) rank m (and n ns) rest = node_bytes m (colon ∷ marked_bytes place rank n ns rest)
+abbrev pub marked_bytes : ℕ → List ℕ → Members → List ℕ → List ℕ
+marked_bytes zero rank (one m) rest = node_bytes m (caret ∷ (rank ++ rest))
+marked_bytes zero rank (and m ms) rest = node_bytes m (caret ∷ (rank ++ (colon ∷ members_bytes ms rest)))
+marked_bytes (suc place) rank (one m) rest = node_bytes m rest
+marked_bytes (suc place) rank (and m ms) rest = node_bytes m (colon ∷ marked_bytes place rank ms rest)
 
--- a body with the mark that it may have; only a body that is a list has one
+-- a body with the mark that it may have; only a body that is one list has one
 abbrev pub content_bytes : Option Mark → Body → List ℕ → List ℕ
 content_bytes None body rest = body_bytes body rest
-content_bytes (Some mark) (list m ms) rest = marked_bytes mark.member mark.rank m ms rest
-content_bytes (Some mark) (reversion m ms n ns) rest = body_bytes (reversion m ms n ns) rest
+content_bytes (Some mark) (list ms) rest = marked_bytes mark.member mark.rank ms rest
+content_bytes (Some mark) (reversion ms ns) rest = body_bytes (reversion ms ns) rest
 
 -- the letters of a kind
 abbrev pub kind_text : Kind → List ℕ

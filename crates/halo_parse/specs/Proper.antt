@@ -1,11 +1,11 @@
 -- What the parts of symbols and statuses have to be: names are names, numbers are numbers, and causes and marks stand where
 -- they may.
-use Rattle.std.specs.Prelude.{◌≡◌, ◌≢◌, ◌≤◌, ℕ, List, All, IfSome, ⊤}
+use Rattle.std.specs.Prelude.{◌≡◌, ◌≢◌, ◌<◌, ℕ, List, All, IfSome, ⊤}
 use Rattle.halo_text.specs.Number.{IsNumber}
 use Rattle.halo_lex.specs.Lexeme.{IsLongName}
 use Rattle.halo_status.specs.declared.pay.Kind.TheVariants.{Insurance}
 use Rattle.halo_parse.specs.Characters.{bar_text}
-use Rattle.halo_parse.specs.Tree.{Node, life, term, last, at_least, exactly, group, after, Others, no_more, and, Body, list, reversion, other_count}
+use Rattle.halo_parse.specs.Tree.{Node, life, term, last, at_least, exactly, group, Members, one, and, Body, list, reversion, member_count}
 use Rattle.halo_parse.specs.Symbol.{Vary, level, increasing, decreasing, Names, Mark, Symbol}
 
 -- a name of any length other than `bar`
@@ -17,21 +17,20 @@ abbrev mutual
   pub IsProper : Node → Type 0
   IsProper (life name) = IsPlainName name
   IsProper (term years) = IsNumber years
-  IsProper (last m ms) = IsProper m × AreProper ms
-  IsProper (at_least rank m ms) = IsNumber rank × IsProper m × AreProper ms
-  IsProper (exactly rank m ms) = IsNumber rank × IsProper m × AreProper ms
-  IsProper (group m ms) = IsProper m × AreProper ms
-  IsProper (after m ms n ns) = IsProper m × AreProper ms × IsProper n × AreProper ns
+  IsProper (last ms) = AreProper ms
+  IsProper (at_least rank ms) = IsNumber rank × AreProper ms
+  IsProper (exactly rank ms) = IsNumber rank × AreProper ms
+  IsProper (group body) = IsProperBody body
 
-  -- the same of each of the members behind the first
-  pub AreProper : Others → Type 0
-  AreProper no_more = ⊤
+  -- a list of such members
+  pub AreProper : Members → Type 0
+  AreProper (one m) = IsProper m
   AreProper (and m ms) = IsProper m × AreProper ms
 
--- the same of each member of a body
-abbrev pub IsProperBody : Body → Type 0
-IsProperBody (list m ms) = IsProper m × AreProper ms
-IsProperBody (reversion m ms n ns) = IsProper m × AreProper ms × IsProper n × AreProper ns
+  -- a body of such members
+  pub IsProperBody : Body → Type 0
+  IsProperBody (list ms) = AreProper ms
+  IsProperBody (reversion ms ns) = AreProper ms × AreProper ns
 
 -- a decreasing head has a number
 abbrev pub IsProperVary : Vary → Type 0
@@ -45,8 +44,8 @@ AreProperNames names = IsPlainName names.first × All IsPlainName names.others
 
 -- a mark has a number, and stands on a member of a body that is one list
 abbrev pub IsProperMark : Mark → Body → Type 0
-IsProperMark mark (list m ms) = IsNumber mark.rank × (mark.member ≤ other_count ms)
-IsProperMark mark (reversion m ms n ns) = ⊥
+IsProperMark mark (list ms) = IsNumber mark.rank × (mark.member < member_count ms)
+IsProperMark mark (reversion ms ns) = ⊥
 
 -- a symbol whose parts are such; only an insurance has causes or a mark
 pub record IsProperSymbol (s : Symbol) : Type 0 where

@@ -1,2 +1,4 @@
 //! Symbols and statuses of the halo notation, read from words.
 #![tactic(auto)]
+
+pub mod tree;
