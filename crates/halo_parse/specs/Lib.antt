@@ -6,3 +6,8 @@ pub mod Proper
 pub mod Nesting
 pub mod Spells
 pub mod StatusOf
+pub mod Piece
+pub mod Pieces
+pub mod Absent
+pub mod View
+pub mod PieceView

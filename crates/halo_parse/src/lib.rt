@@ -1,4 +1,11 @@
 //! Symbols and statuses of the halo notation, read from words.
 #![tactic(auto)]
 
-pub mod tree;
+mod body;
+mod error;
+mod piece;
+mod reader;
+mod tree;
+
+pub use error::WordError;
+pub use tree::{Body, Members, Node};

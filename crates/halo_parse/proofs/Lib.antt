@@ -1,0 +1,4 @@
+pub mod Unique
+pub mod Shapes
+pub mod Lists
+pub mod Refused
