@@ -5,7 +5,8 @@ use Rattle.halo_parse.specs.Piece.{Piece, name, bar, number, byte}
 use Rattle.halo_parse.specs.Tree.{Node, life, term, last, at_least, exactly, group, Members, one, and, Body, list, reversion}
 use Rattle.halo_parse.specs.Nesting.{nest, nest_members, nest_body}
 use Rattle.halo_parse.specs.Pieces.{node_pieces, members_pieces, body_pieces}
-use Rattle.halo_parse.specs.Absent.{NotNext, NoNode, NoMembers, NoBracketed, Ends, NoBody}
+use Rattle.halo_parse.specs.Absent.{NoNode, NoMembers, NoBracketed, NoBody}
+use Rattle.halo_parse.specs.Next.{NotNext, Ends}
 use Rattle.halo_parse.proofs.Unique.{first_code, behind, close_not_colon, stroke_not_colon, closes, node_unique, members_unique, body_unique}
 
 -- no member begins with nothing

@@ -4,7 +4,7 @@ use Rattle.halo_parse.specs.Characters.{round_close, colon, stroke}
 use Rattle.halo_parse.specs.Piece.{Piece, name, bar, number, byte}
 use Rattle.halo_parse.specs.Tree.{Node, life, term, last, at_least, exactly, group, Members, one, and, Body, list, reversion}
 use Rattle.halo_parse.specs.Pieces.{node_pieces, members_pieces, body_pieces}
-use Rattle.halo_parse.specs.Absent.{NotNext, Ends}
+use Rattle.halo_parse.specs.Next.{NotNext, Ends}
 
 -- a number for the first piece, which differs where pieces begin differently
 abbrev pub first_code : List Piece → ℕ

@@ -8,6 +8,8 @@ pub mod Spells
 pub mod StatusOf
 pub mod Piece
 pub mod Pieces
+pub mod Next
 pub mod Absent
 pub mod View
 pub mod PieceView
+pub mod SymbolView

@@ -1,8 +1,9 @@
 -- What the parts of symbols and statuses have to be: names are names, numbers are numbers, and causes and marks stand where
 -- they may.
-use Rattle.std.specs.Prelude.{◌≡◌, ◌≢◌, ◌<◌, ℕ, List, All, IfSome, ⊤}
+use Rattle.std.specs.Prelude.{◌≡◌, ◌≢◌, ◌<◌, ℕ, List, All, Option, IfSome, ⊤}
 use Rattle.halo_text.specs.Number.{IsNumber}
 use Rattle.halo_lex.specs.Lexeme.{IsLongName}
+use Rattle.halo_status.specs.declared.pay.Kind.{Kind}
 use Rattle.halo_status.specs.declared.pay.Kind.TheVariants.{Insurance}
 use Rattle.halo_parse.specs.Characters.{bar_text}
 use Rattle.halo_parse.specs.Tree.{Node, life, term, last, at_least, exactly, group, Members, one, and, Body, list, reversion, member_count}
@@ -42,15 +43,29 @@ IsProperVary (decreasing count) = IsNumber count
 abbrev pub AreProperNames : Names → Type 0
 AreProperNames names = IsPlainName names.first × All IsPlainName names.others
 
--- a mark has a number, and stands on a member of a body that is one list
-abbrev pub IsProperMark : Mark → Body → Type 0
-IsProperMark mark (list ms) = IsNumber mark.rank × (mark.member < member_count ms)
-IsProperMark mark (reversion ms ns) = ⊥
+-- only an insurance has causes
+abbrev pub MayHaveCauses : Kind → Option Names → Type 0
+MayHaveCauses kind causes = IfSome causes (λ _. kind ≡ Insurance)
 
--- a symbol whose parts are such; only an insurance has causes or a mark
-pub record IsProperSymbol (s : Symbol) : Type 0 where
-  pub defer : IfSome s.defer IsNumber
+-- the place of a mark is that of a member of a body that is one list
+abbrev pub StandsIn : Mark → Body → Type 0
+StandsIn mark (list ms) = mark.member < member_count ms
+StandsIn mark (reversion ms ns) = ⊥
+
+-- only an insurance has a mark, on a member of its body
+abbrev pub MayHaveMark : Kind → Option Mark → Body → Type 0
+MayHaveMark kind mark body = IfSome mark (λ mark. (kind ≡ Insurance) × StandsIn mark body)
+
+-- a decreasing head has a number, and causes and a mark stand where they may
+pub record IsAllowed (s : Symbol) : Type 0 where
   pub vary : IsProperVary s.vary
-  pub causes : IfSome s.causes (λ names. (s.kind ≡ Insurance) × AreProperNames names)
+  pub causes : MayHaveCauses s.kind s.causes
+  pub mark : MayHaveMark s.kind s.mark s.body
+
+-- such a symbol whose names are names and whose numbers are numbers
+pub record IsProperSymbol (s : Symbol) : Type 0 where
+  pub allowed : IsAllowed s
+  pub defer : IfSome s.defer IsNumber
+  pub causes : IfSome s.causes AreProperNames
   pub body : IsProperBody s.body
-  pub mark : IfSome s.mark (λ mark. (s.kind ≡ Insurance) × IsProperMark mark s.body)
+  pub mark : IfSome s.mark (λ mark. IsNumber mark.rank)

@@ -4,7 +4,8 @@ ghost use Rattle.halo_parse.specs.Characters.{round_open, round_close, colon};
 ghost use Rattle.halo_parse.specs.Piece.{byte};
 ghost use Rattle.halo_parse.specs.Nesting.{nest, nest_members, nest_body};
 ghost use Rattle.halo_parse.specs.Pieces.{node_pieces, members_pieces, body_pieces, marked_pieces};
-ghost use Rattle.halo_parse.specs.Absent.{Ends, NoBody, NoBracketed, NoMembers, NoNode, NotNext};
+ghost use Rattle.halo_parse.specs.Absent.{NoBody, NoBracketed, NoMembers, NoNode};
+ghost use Rattle.halo_parse.specs.Next.{Ends, NotNext};
 ghost use Rattle.halo_parse.specs.View.{plain_node, plain_members, plain_body};
 
 use crate::error::WordError;

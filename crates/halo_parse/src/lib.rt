@@ -2,10 +2,15 @@
 #![tactic(auto)]
 
 mod body;
+mod causes;
+mod content;
 mod error;
+mod head;
 mod piece;
 mod reader;
+mod symbol;
 mod tree;
 
 pub use error::WordError;
+pub use symbol::{Mark, Names, Symbol, Vary};
 pub use tree::{Body, Members, Node};

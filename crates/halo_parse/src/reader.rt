@@ -2,7 +2,7 @@
 ghost use Rattle.std.specs.Prelude.{◌≡◌, ℕ, IsTrue, true, false, [], ◌∷◌, List, map, MatchOption, MatchResult};
 ghost use Rattle.halo_parse.specs.Piece as plain;
 ghost use Rattle.halo_parse.specs.PieceView.{plain_piece};
-ghost use Rattle.halo_parse.specs.Absent.{NotNext, NoNumberNext, NoNameNext};
+ghost use Rattle.halo_parse.specs.Next.{NotNext, NoNumberNext, NoNameNext};
 
 use crate::error::WordError;
 use crate::piece::Piece;
@@ -74,15 +74,30 @@ impl<'p, 'a> Reader<'p, 'a> {
         }
     }
 
+    // Reads a number and gives its digits, where one comes next.
+    pub fn takes_number(&mut self) -> Option<&'a [u8]>
+        ensures { MatchOption result
+            (self.new ≡ self.old × NoNumberNext self.old)
+            (λ digits. self.old ≡ plain.number digits.now ∷ self.new) }
+    {
+        match self.left {
+            [Piece::Number(digits), rest @ ..] => {
+                self.left = rest;
+                Some(*digits)
+            }
+            _ => None,
+        }
+    }
+
     // Reads a number, and gives its digits.
     pub fn number(&mut self) -> Result<&'a [u8], WordError>
         ensures { MatchResult result
             (λ digits. self.old ≡ plain.number digits.now ∷ self.new)
             (λ error. (error ≡ WordError.Syntax) × NoNumberNext self.old) }
     {
-        match self.next() {
-            Some(Piece::Number(digits)) => Ok(digits),
-            _ => Err(WordError::Syntax),
+        match self.takes_number() {
+            Some(digits) => Ok(digits),
+            None => Err(WordError::Syntax),
         }
     }
 
