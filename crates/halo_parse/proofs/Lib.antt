@@ -5,3 +5,5 @@ pub mod Refused
 pub mod Heads
 pub mod Sets
 pub mod Marks
+pub mod Symbols
+pub mod Cuts

@@ -1,5 +1,5 @@
 -- Pieces: the lexemes of a symbol or status, where the name `bar` is a piece of its own.
-use Rattle.std.specs.Prelude.{◌≡◌, ℕ, zero, suc, true, List, [], ◌∷◌, map, refl, ⊤}
+use Rattle.std.specs.Prelude.{◌≡◌, ◌≢◌, ℕ, zero, suc, true, List, [], ◌∷◌, map, refl, ⊤}
 use Rattle.std.specs.Coded.{Coded, code_by, coded×, coded_ℕ, coded_list}
 use Rattle.halo_text.specs.Number.{IsNumber}
 use Rattle.halo_lex.specs.Lexeme as lexeme
@@ -31,6 +31,11 @@ IsPiece (name text) = IsPlainName text
 IsPiece bar = ⊤
 IsPiece (number digits) = IsNumber digits
 IsPiece (byte b) = is_symbol_byte b ≡ true
+
+-- a lexeme as a piece, where the name `bar` is the piece `bar`
+pub record IsPieceOf (lexeme : Lexeme) (piece : Piece) : Type 0 where
+  pub same : as_lexeme piece ≡ lexeme
+  pub apart : piece ≢ name bar_text
 
 -- the texts of pieces one after the other
 abbrev pub piece_texts : List Piece → List ℕ

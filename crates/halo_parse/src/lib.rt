@@ -10,7 +10,9 @@ mod piece;
 mod reader;
 mod symbol;
 mod tree;
+mod word;
 
 pub use error::WordError;
 pub use symbol::{Mark, Names, Symbol, Vary};
 pub use tree::{Body, Members, Node};
+pub use word::{MOST_NESTING, read_status, read_symbol};
