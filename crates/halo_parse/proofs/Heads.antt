@@ -12,7 +12,7 @@ use Rattle.halo_parse.specs.Bytes.{head_text, kind_text}
 use Rattle.halo_parse.specs.Proper.{IsProperVary}
 
 -- the first byte, and 0 where there is none
-abbrev first_byte : List ℕ → ℕ
+abbrev pub first_byte : List ℕ → ℕ
 first_byte [] = 0
 first_byte (b ∷ bytes) = b
 

@@ -7,3 +7,7 @@ pub mod Sets
 pub mod Marks
 pub mod Symbols
 pub mod Cuts
+pub mod Texts
+pub mod Cutting
+pub mod SymbolCutting
+pub mod Words

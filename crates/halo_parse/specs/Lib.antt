@@ -13,3 +13,4 @@ pub mod Absent
 pub mod View
 pub mod PieceView
 pub mod SymbolView
+pub mod Laws

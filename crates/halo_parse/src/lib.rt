@@ -6,6 +6,7 @@ mod causes;
 mod content;
 mod error;
 mod head;
+pub mod laws;
 mod piece;
 mod reader;
 mod symbol;
@@ -16,3 +17,6 @@ pub use error::WordError;
 pub use symbol::{Mark, Names, Symbol, Vary};
 pub use tree::{Body, Members, Node};
 pub use word::{MOST_NESTING, read_status, read_symbol};
+
+#[cfg(test)]
+mod tests;

@@ -26,7 +26,7 @@ returns-in_default-clause-syntax c failed =
     let body = plain_body c.in_ok-body.body in
     let stops = subst (Ends body) read c.in_ok-body.ensures.ends in
     no_marked _ _ body _ _ stops (c.in_ok-body.ensures.ok ∙ ap (body_pieces body) read)
-    (λ rank upto ms after rest kind one. let two = plain_body-Reversion c.in_default.field-0 c.in_default.field-1 in absurd (cc (one, ap plain_body c.in_default.is, two)))
+    (λ rank upto ms after rest kind one. let two = plain_body-Reversion c.in_default.field-0 c.in_default.field-1 in absurd (cc (one, two)))
 
 pub returns-then-ne-clause-syntax : goal.returns-then-ne-clause-syntax
 returns-then-ne-clause-syntax c failed =

@@ -29,9 +29,9 @@ loop-token-preserved c =
 pub returns : goal.returns
 returns c =
     let all : take c.loop-token.token-index c.deref-token-items.result.now ≡ c.in-Ok.tokens.items =
-        take_all _ _ c.loop-token-test.false ∙ c.deref-token-items.ensures.value in
+    take_all _ _ c.loop-token-test.false ∙ c.deref-token-items.ensures.value in
     let are : ArePiecesOf (map (lexeme_of c.args.word.now) c.in-Ok.tokens.items) (map plain_piece c.loop-token.found.items) =
-        subst (λ (tokens : List Token). ArePiecesOf (map (lexeme_of c.args.word.now) tokens) (map plain_piece c.loop-token.found.items)) all c.loop-token.invariant in
+    subst (λ (tokens : List Token). ArePiecesOf (map (lexeme_of c.args.word.now) tokens) (map plain_piece c.loop-token.found.items)) all c.loop-token.invariant in
     let lexemes = c.in-Ok.ensures.ok.lexemes in
     record {
       ok = pieces_are _ _ lexemes.each are;
