@@ -1,5 +1,5 @@
 -- Words are cut into pieces in one way, as they are cut into lexemes.
-use Rattle.std.proofs.Common.{◌≡◌, ◌≤◌, ◌<◌, ℕ, true, get_or, length, arith, List, [], ◌∷◌, ◌++◌, map, refl, sym, ap, ap₂, subst, ◌∙◌}
+use Rattle.std.proofs.Common.{◌≡◌, ◌≤◌, ◌<◌, ℕ, true, get_or, length, arith, List, [], ◌∷◌, ◌++◌, map, refl, sym, ap, ap₂, subst}
 use Rattle.std.proofs.lemmas.List.Elements.{All-cons, All-nil}
 use Rattle.halo_text.specs.Name.{is_name_byte}
 use Rattle.halo_lex.specs.Lexeme as lexeme
@@ -9,7 +9,6 @@ use Rattle.halo_lex.specs.declared.token.Token.{Token}
 use Rattle.halo_lex.specs.declared.token.TokenKind.TheVariants as kind
 use Rattle.halo_lex.proofs.Tiling.{tile_within}
 use Rattle.halo_lex.proofs.Lexing.{told_by_texts}
-use Rattle.halo_parse.specs.Characters.{bar_text}
 use Rattle.halo_parse.specs.Piece.{Piece, name, bar, number, byte, as_lexeme, IsPiece, IsPieceOf, ArePieces, piece_texts}
 
 -- these pieces are those of the lexemes, one of each

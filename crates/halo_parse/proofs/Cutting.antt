@@ -1,14 +1,11 @@
 -- The pieces of proper symbols and statuses are taken as long as they go, and the other way round.
-use Rattle.std.proofs.Common.{◌≡◌, ℕ, zero, suc, true, false, List, [], ◌∷◌, ◌++◌, Option, Some, None, refl, sym, ap, arith, ◌∙◌}
-use Rattle.std.specs.Prelude.{All}
-use Rattle.std.proofs.lemmas.List.Elements.{All-cons, All-head, All-nil, All-tail}
+use Rattle.std.proofs.Common.{◌≡◌, ℕ, true, false, List, ◌∷◌, refl, arith}
 use Rattle.halo_text.specs.Name.{is_name_byte}
-use Rattle.halo_text.specs.Number.{IsDigit, IsNumber}
 use Rattle.halo_lex.specs.Lexeme.{BeginsWithout, is_symbol_byte}
-use Rattle.halo_parse.specs.Characters.{round_open, round_close, comma, slash, colon, angle_open, angle_close, square_open, square_close, caret, brace_open, stroke, brace_close}
-use Rattle.halo_parse.specs.Piece.{Piece, name, bar, number, byte, piece_texts, ArePieces}
+use Rattle.halo_parse.specs.Characters.{round_close, colon, stroke}
+use Rattle.halo_parse.specs.Piece.{Piece, byte, piece_texts, ArePieces}
 use Rattle.halo_parse.specs.Tree.{Node, life, term, last, at_least, exactly, group, Members, one, and, Body, list, reversion}
-use Rattle.halo_parse.specs.Proper.{IsPlainName, IsProper, AreProper, IsProperBody}
+use Rattle.halo_parse.specs.Proper.{IsProper, AreProper, IsProperBody}
 use Rattle.halo_parse.specs.Pieces.{node_pieces, members_pieces, body_pieces}
 
 -- a byte that may stand in a name

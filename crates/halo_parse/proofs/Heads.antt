@@ -1,5 +1,5 @@
 -- Heads of symbols are told by their letters.
-use Rattle.std.proofs.Common.{◌≡◌, ℕ, List, [], ◌∷◌, ◌++◌, ◌<◌, refl, sym, ap, ◌∙◌, arith}
+use Rattle.std.proofs.Common.{◌≡◌, ℕ, List, [], ◌∷◌, ◌++◌, ◌<◌, refl, sym, ap, arith}
 use Rattle.halo_text.specs.Number.{IsDigit, IsNumber}
 use Rattle.halo_lex.specs.Lexeme as lexeme
 use Rattle.halo_lex.specs.Lexeme.{BeginsWithout}

@@ -1,5 +1,5 @@
 -- Members take pieces, and lists grow at their ends.
-use Rattle.std.proofs.Common.{◌≡◌, ◌<◌, ◌≤◌, ℕ, suc, max, List, [], ◌∷◌, ◌++◌, length, refl, ap, arith}
+use Rattle.std.proofs.Common.{◌≡◌, ◌<◌, max, List, [], ◌∷◌, ◌++◌, length, refl, ap, arith}
 use Rattle.halo_parse.specs.Characters.{round_close, colon, stroke}
 use Rattle.halo_parse.specs.Piece.{Piece, byte}
 use Rattle.halo_parse.specs.Tree as plain

@@ -1,5 +1,5 @@
 -- Marked lists: pieces begin with at most one body and its mark, and why they begin with none.
-use Rattle.std.proofs.Common.{◌≡◌, ℕ, zero, suc, ◌+◌, ◌<◌, ◌≤◌, List, [], ◌∷◌, length, Option, Some, None, refl, sym, ap, ap₂, subst, ◌∙◌, arith}
+use Rattle.std.proofs.Common.{◌≡◌, ℕ, zero, suc, ◌<◌, ◌≤◌, List, [], ◌∷◌, length, Option, Some, None, refl, sym, ap, ap₂, ◌∙◌, arith}
 use Rattle.halo_status.specs.declared.pay.Kind.{Kind}
 use Rattle.halo_status.specs.declared.pay.Kind.TheVariants.{Insurance}
 use Rattle.halo_parse.specs.Characters.{colon, caret, stroke}
@@ -8,10 +8,10 @@ use Rattle.halo_parse.specs.Tree as plain
 use Rattle.halo_parse.specs.Tree.{Members, one, and, Body, list, reversion, member_count}
 use Rattle.halo_parse.specs.Symbol.{Mark}
 use Rattle.halo_parse.specs.Proper.{MayHaveMark}
-use Rattle.halo_parse.specs.Nesting.{nest_members, nest_body}
+use Rattle.halo_parse.specs.Nesting.{nest_members}
 use Rattle.halo_parse.specs.Pieces.{node_pieces, members_pieces, marked_pieces, body_pieces, content_pieces}
 use Rattle.halo_parse.specs.Next.{NotNext, Ends, ContentEnds}
-use Rattle.halo_parse.specs.Absent.{NoMembers, NoBody, NoContent}
+use Rattle.halo_parse.specs.Absent.{NoBody, NoContent}
 use Rattle.halo_parse.specs.View.{plain_node, members_of}
 use Rattle.halo_parse.specs.declared.tree.Node.{Node}
 use Rattle.halo_parse.proofs.Unique.{first_code, behind, node_unique, members_unique, body_unique}

@@ -1,13 +1,13 @@
 -- Why no member, no list and no body comes next.
-use Rattle.std.proofs.Common.{◌≡◌, ◌≢◌, ◌<◌, ◌≤◌, ◌-◌, ◌+◌, subst, ℕ, suc, max, List, [], ◌∷◌, refl, sym, ap, ◌∙◌, arith}
+use Rattle.std.proofs.Common.{◌≡◌, ◌≢◌, ◌<◌, ◌≤◌, ◌-◌, ℕ, List, [], ◌∷◌, refl, sym, ap, ◌∙◌, arith}
 use Rattle.halo_parse.specs.Characters.{round_open, round_close, slash, colon, angle_open, angle_close, square_open, square_close, stroke}
-use Rattle.halo_parse.specs.Piece.{Piece, name, bar, number, byte}
+use Rattle.halo_parse.specs.Piece.{Piece, bar, number, byte}
 use Rattle.halo_parse.specs.Tree.{Node, life, term, last, at_least, exactly, group, Members, one, and, Body, list, reversion}
 use Rattle.halo_parse.specs.Nesting.{nest, nest_members, nest_body}
 use Rattle.halo_parse.specs.Pieces.{node_pieces, members_pieces, body_pieces}
 use Rattle.halo_parse.specs.Absent.{NoNode, NoMembers, NoBracketed, NoBody}
-use Rattle.halo_parse.specs.Next.{NotNext, Ends}
-use Rattle.halo_parse.proofs.Unique.{first_code, behind, close_not_colon, stroke_not_colon, closes, node_unique, members_unique, body_unique}
+use Rattle.halo_parse.specs.Next.{NotNext}
+use Rattle.halo_parse.proofs.Unique.{first_code, behind, close_not_colon, stroke_not_colon, node_unique, members_unique}
 
 -- no member begins with nothing
 pub no_nothing : (d : ℕ) (ts : List Piece) → ts ≡ [] → NoNode d ts

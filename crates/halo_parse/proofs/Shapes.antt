@@ -4,8 +4,8 @@ use Rattle.std.specs.Borrow.{Bor}
 use Rattle.halo_parse.specs.Tree as plain
 use Rattle.halo_parse.specs.View.{plain_node, plain_body, plain_row, members_of, plain_members}
 use Rattle.halo_parse.specs.declared.tree.Members.{Members}
-use Rattle.halo_parse.specs.declared.tree.Node.{Node, Last, AtLeast, Exactly, the_lemmas, Row_of-Node, end_of-Node, more_of-Node, items-the_row-Node}
-use Rattle.halo_parse.specs.declared.tree.Body.{Body, List as OneList, Reversion}
+use Rattle.halo_parse.specs.declared.tree.Node.{Last, AtLeast, Exactly, the_lemmas, Row_of-Node, end_of-Node, more_of-Node, items-the_row-Node}
+use Rattle.halo_parse.specs.declared.tree.Body.{List as OneList, Reversion}
 
 -- the members of a row are those of its list
 plain_row-members : (first : plain.Node) (m : _) (row : Row_of-Node m) → plain_row first row ≡ members_of first (items-the_row-Node m row)

@@ -1,5 +1,5 @@
 -- The same of whole symbols: the pieces of proper ones are taken as long as they go, and the other way round.
-use Rattle.std.proofs.Common.{◌≡◌, ◌≢◌, ◌<◌, ℕ, zero, suc, true, false, List, [], ◌∷◌, ◌++◌, Option, Some, None, refl, sym, ap, arith, ◌∙◌}
+use Rattle.std.proofs.Common.{◌≡◌, ◌<◌, ℕ, zero, suc, true, List, [], ◌∷◌, Option, Some, None, refl, ap, arith}
 use Rattle.std.specs.Prelude.{All, IfSome}
 use Rattle.std.proofs.lemmas.List.Elements.{All-append, All-cons, All-head, All-nil, All-tail}
 use Rattle.halo_text.specs.Name.{is_name_byte}
@@ -7,13 +7,13 @@ use Rattle.halo_text.specs.Number.{IsDigit, IsNumber}
 use Rattle.halo_lex.specs.Lexeme.{BeginsWithout, is_symbol_byte}
 use Rattle.halo_status.specs.declared.pay.Kind.{Kind}
 use Rattle.halo_status.specs.declared.pay.Kind.TheVariants.{Insurance, Immediate, Due}
-use Rattle.halo_parse.specs.Characters.{comma, colon, square_open, square_close, caret, brace_open, brace_close, bar_text}
-use Rattle.halo_parse.specs.Piece.{Piece, name, number, byte, piece_texts, ArePieces}
-use Rattle.halo_parse.specs.Tree.{Node, Members, one, and, Body, list, reversion, member_count}
+use Rattle.halo_parse.specs.Characters.{colon, square_open, square_close, caret, brace_close}
+use Rattle.halo_parse.specs.Piece.{Piece, number, byte, piece_texts, ArePieces}
+use Rattle.halo_parse.specs.Tree.{Members, one, and, Body, list, reversion, member_count}
 use Rattle.halo_parse.specs.Symbol.{Vary, level, increasing, decreasing, Names, Mark, Symbol}
 use Rattle.halo_parse.specs.Bytes.{kind_text, head_text}
 use Rattle.halo_parse.specs.Proper.{IsPlainName, AreProper, IsProperBody, IsProperVary, AreProperNames, MayHaveMark, IsAllowed, IsProperSymbol}
-use Rattle.halo_parse.specs.Pieces.{node_pieces, members_pieces, body_pieces, marked_pieces, content_pieces, defer_pieces, other_names_pieces, causes_pieces, symbol_pieces}
+use Rattle.halo_parse.specs.Pieces.{members_pieces, marked_pieces, content_pieces, defer_pieces, other_names_pieces, causes_pieces, symbol_pieces}
 use Rattle.halo_parse.proofs.Heads.{first_byte}
 use Rattle.halo_parse.proofs.Cutting.{IsNameByte, EndsName, clash, node_are, members_are, body_are, node_proper, members_proper, body_proper}
 

@@ -1,7 +1,7 @@
 -- The bytes of symbols and statuses are the texts of their pieces.
-use Rattle.std.proofs.Common.{◌≡◌, ℕ, zero, suc, List, [], ◌∷◌, ◌++◌, Option, Some, None, refl, sym, ap, ◌∙◌}
-use Rattle.halo_parse.specs.Characters.{round_open, round_close, comma, slash, colon, angle_open, angle_close, square_open, square_close, caret, brace_open, stroke, brace_close, bar_text}
-use Rattle.halo_parse.specs.Piece.{Piece, name, number, byte, piece_texts}
+use Rattle.std.proofs.Common.{◌≡◌, ℕ, zero, suc, List, [], ◌∷◌, ◌++◌, Option, Some, None, refl, ap, ◌∙◌}
+use Rattle.halo_parse.specs.Characters.{round_open, round_close, comma, slash, colon, square_open, square_close, caret, brace_open, stroke, brace_close, bar_text}
+use Rattle.halo_parse.specs.Piece.{Piece, number, byte, piece_texts}
 use Rattle.halo_parse.specs.Tree.{Node, life, term, last, at_least, exactly, group, Members, one, and, Body, list, reversion}
 use Rattle.halo_parse.specs.Symbol.{Names, Mark, Symbol}
 use Rattle.halo_parse.specs.Bytes.{node_bytes, members_bytes, body_bytes, marked_bytes, content_bytes, head_text, defer_bytes, other_names_bytes, causes_bytes, symbol_bytes}

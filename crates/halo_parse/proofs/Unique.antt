@@ -1,5 +1,5 @@
 -- Pieces begin with at most one member, one list and one body.
-use Rattle.std.proofs.Common.{◌≡◌, ℕ, ◌+◌, List, [], ◌∷◌, sym, ap, ◌∙◌, arith}
+use Rattle.std.proofs.Common.{◌≡◌, ℕ, ◌+◌, List, [], ◌∷◌, sym, ap, arith}
 use Rattle.halo_parse.specs.Characters.{round_close, colon, stroke}
 use Rattle.halo_parse.specs.Piece.{Piece, name, bar, number, byte}
 use Rattle.halo_parse.specs.Tree.{Node, life, term, last, at_least, exactly, group, Members, one, and, Body, list, reversion}

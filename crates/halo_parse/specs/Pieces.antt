@@ -1,6 +1,6 @@
 -- The pieces that symbols and statuses are written with: the grammar once more, over pieces in place of bytes. Each definition
 -- takes the pieces that stand behind what it writes.
-use Rattle.std.specs.Prelude.{◌≡◌, ℕ, zero, suc, List, [], ◌∷◌, Option, Some, None}
+use Rattle.std.specs.Prelude.{ℕ, zero, suc, List, [], ◌∷◌, Option, Some, None}
 use Rattle.halo_parse.specs.Characters.{round_open, round_close, comma, slash, colon, angle_open, angle_close, square_open, square_close, caret, brace_open, stroke, brace_close}
 use Rattle.halo_parse.specs.Piece.{Piece, name, bar, number, byte}
 use Rattle.halo_parse.specs.Tree.{Node, life, term, last, at_least, exactly, group, Members, one, and, Body, list, reversion}

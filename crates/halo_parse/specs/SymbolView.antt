@@ -1,6 +1,5 @@
 -- The plain form of a symbol in memory.
-use Rattle.std.specs.Prelude.{ℕ, List, map, Option}
-use Rattle.std.specs.Borrow.{Bor}
+use Rattle.std.specs.Prelude.{map}
 use Rattle.std.specs.Option.{option_copied, option_map}
 use Rattle.halo_parse.specs.Symbol as plain
 use Rattle.halo_parse.specs.View.{plain_body}

@@ -1,6 +1,5 @@
 -- The plain forms of the trees in memory.
-use Rattle.std.specs.Prelude.{ℕ, List, [], ◌∷◌, map, Option, option_map}
-use Rattle.std.specs.Borrow.{Bor}
+use Rattle.std.specs.Prelude.{List, [], ◌∷◌}
 use Rattle.halo_parse.specs.Tree as plain
 use Rattle.halo_parse.specs.declared.tree.Members.{Members}
 use Rattle.halo_parse.specs.declared.tree.Node.{Node, Life, Term, Last', AtLeast', Exactly', Group, Row_of-Node, end_of-Node, more_of-Node}

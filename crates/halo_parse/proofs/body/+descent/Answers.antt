@@ -1,5 +1,5 @@
-use Rattle.std.proofs.Common.{◌≡◌, ◌∷◌, ◌-◌, ◌<◌, List, sym, subst, ap, ◌∙◌, arith}
-use Rattle.halo_parse.specs.Characters.{round_open, slash, angle_open, square_open}
+use Rattle.std.proofs.Common.{◌≡◌, ◌∷◌, ◌-◌, List, sym, subst, ap, ◌∙◌, arith}
+use Rattle.halo_parse.specs.Characters.{round_open, angle_open, square_open}
 use Rattle.halo_parse.specs.Piece.{Piece, bar, number, byte}
 use Rattle.halo_parse.specs.Absent.{NoNode, NoMembers, NoBracketed, NoBody}
 use Rattle.halo_parse.specs.View.{plain_members}

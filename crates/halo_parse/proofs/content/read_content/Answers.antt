@@ -1,7 +1,7 @@
 use Rattle.std.proofs.Common.{◌≡◌, ◌≤◌, ◌∷◌, List, length, suc, Option, Some, rules, sym, subst, ap, ap₂, ◌∙◌, arith}
 use Rattle.halo_parse.specs.Characters.{caret}
 use Rattle.halo_parse.specs.Piece.{Piece, byte}
-use Rattle.halo_parse.specs.Tree.{Body, list, member_count}
+use Rattle.halo_parse.specs.Tree.{Body, member_count}
 use Rattle.halo_parse.specs.Symbol.{Mark}
 use Rattle.halo_parse.specs.Proper.{MayHaveMark}
 use Rattle.halo_status.specs.declared.pay.Kind.TheVariants.{Insurance}

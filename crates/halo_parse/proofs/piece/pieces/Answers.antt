@@ -1,10 +1,10 @@
-use Rattle.std.proofs.Common.{◌≡◌, ◌∷◌, ◌++◌, List, [], length, rules, ap, sym, map, subst, subst₂, take, ◌∙◌}
+use Rattle.std.proofs.Common.{◌≡◌, ◌∷◌, List, [], rules, ap, sym, map, subst, subst₂, take, ◌∙◌}
 use Rattle.std.proofs.lemmas.List.{map-append, take_all, take_more}
-use Rattle.halo_lex.specs.Lexeme.{Lexeme, texts}
+use Rattle.halo_lex.specs.Lexeme.{texts}
 use Rattle.halo_lex.specs.Cut.{IsCut, IsTold, lexeme_of}
 use Rattle.halo_lex.specs.declared.token.Token.{Token}
 use Rattle.halo_lex.proofs.Lexing.{cut_not_stuck}
-use Rattle.halo_parse.specs.Piece.{Piece, as_lexeme}
+use Rattle.halo_parse.specs.Piece.{as_lexeme}
 use Rattle.halo_parse.specs.PieceView.{plain_piece}
 use Rattle.halo_parse.proofs.Cuts.{no_token, token_within, lexemes_are, ArePiecesOf, pieces_more, pieces_are, pieces_lexemes}
 use Rattle.halo_parse.proofs.piece.pieces.Goals as goal

@@ -1,5 +1,4 @@
-use Rattle.std.proofs.Common.{◌≡◌, List, [], ap, map, sym, subst, ◌∙◌, arith}
-use Rattle.halo_parse.specs.Piece.{Piece}
+use Rattle.std.proofs.Common.{◌≡◌, [], ap, map, sym, subst, ◌∙◌, arith}
 use Rattle.halo_parse.specs.PieceView.{plain_piece}
 use Rattle.halo_parse.specs.Pieces.{symbol_pieces}
 use Rattle.halo_parse.specs.Absent.{NoSymbol}

@@ -1,5 +1,4 @@
-use Rattle.std.proofs.Common.{◌≡◌, ◌∷◌, List, sym, subst, ap, ◌∙◌, arith}
-use Rattle.halo_parse.specs.Piece.{Piece}
+use Rattle.std.proofs.Common.{sym, subst, ◌∙◌, arith}
 use Rattle.halo_parse.specs.Absent.{NoDefer, NoCauses, NoContent, NoSymbol}
 use Rattle.halo_parse.specs.SymbolView.{plain_vary}
 use Rattle.halo_parse.specs.Proper.{MayHaveCauses, MayHaveMark}
