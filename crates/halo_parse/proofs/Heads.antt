@@ -17,7 +17,7 @@ first_byte [] = 0
 first_byte (b ∷ bytes) = b
 
 -- the bytes behind the first
-tail : {a b : ℕ} {r s : List ℕ} → a ∷ r ≡ b ∷ s → r ≡ s
+pub tail : {a b : ℕ} {r s : List ℕ} → a ∷ r ≡ b ∷ s → r ≡ s
 tail e = cc
 
 -- a kind is told by its letters
@@ -40,7 +40,7 @@ counts_one : (m n r s : List ℕ) → IsNumber m → IsNumber n → BeginsWithou
 counts_one m n r s h k u v e = let one = lexeme_one (lexeme.number m) (lexeme.number n) r s h k u v e in (cc, one.1)
 
 -- they begin with `A` or `a`, and so with no byte between these
-kind_text-first : (k : Kind) (b : ℕ) (rest : List ℕ) → 65 < b → b < 97 → kind_text k ≡ b ∷ rest → ⊥
+pub kind_text-first : (k : Kind) (b : ℕ) (rest : List ℕ) → 65 < b → b < 97 → kind_text k ≡ b ∷ rest → ⊥
 kind_text-first Insurance b rest low high e = absurd (omega (arith, ap first_byte e))
 kind_text-first Immediate b rest low high e = absurd (omega (arith, ap first_byte e))
 kind_text-first Due b rest low high e = absurd (omega (arith, ap first_byte e))

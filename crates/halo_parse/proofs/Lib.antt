@@ -1,4 +1,5 @@
 pub mod Unique
+pub mod Lengths
 pub mod Shapes
 pub mod Lists
 pub mod Refused
@@ -11,3 +12,9 @@ pub mod Texts
 pub mod Cutting
 pub mod SymbolCutting
 pub mod Words
+pub mod Choices
+pub mod BodyChoices
+pub mod RefusedSymbols
+pub mod HeadChoices
+pub mod SymbolChoices
+pub mod WordChoices

@@ -1,30 +1,14 @@
--- Members take pieces, and lists grow at their ends.
-use Rattle.std.proofs.Common.{◌≡◌, ◌<◌, max, List, [], ◌∷◌, ◌++◌, length, refl, ap, arith}
+-- Lists grow at their ends.
+use Rattle.std.proofs.Common.{◌≡◌, ◌+◌, ◌<◌, max, List, [], ◌∷◌, ◌++◌, length, refl, ap, arith}
 use Rattle.halo_parse.specs.Characters.{round_close, colon, stroke}
 use Rattle.halo_parse.specs.Piece.{Piece, byte}
 use Rattle.halo_parse.specs.Tree as plain
 use Rattle.halo_parse.specs.Tree.{life, term, last, at_least, exactly, group, one, and, list, reversion}
-use Rattle.halo_parse.specs.Nesting.{nest, nest_members}
+use Rattle.halo_parse.specs.Nesting.{nest, nest_members, nest_body}
 use Rattle.halo_parse.specs.Pieces.{node_pieces, members_pieces, body_pieces}
 use Rattle.halo_parse.specs.View.{plain_node, members_of}
+use Rattle.halo_parse.proofs.Lengths.{node_pieces-longer}
 use Rattle.halo_parse.specs.declared.tree.Node.{Node}
-
-mutual
-  pub node_pieces-longer : (m : plain.Node) (rest : List Piece) → length rest < length (node_pieces m rest)
-  node_pieces-longer (life text) rest = omega arith
-  node_pieces-longer (term years) rest = omega arith
-  node_pieces-longer (last ms) rest = omega (arith, members_pieces-longer ms (byte round_close ∷ rest))
-  node_pieces-longer (at_least rank ms) rest = omega (arith, members_pieces-longer ms (byte round_close ∷ rest))
-  node_pieces-longer (exactly rank ms) rest = omega (arith, members_pieces-longer ms (byte round_close ∷ rest))
-  node_pieces-longer (group body) rest = omega (arith, body_pieces-longer body (byte round_close ∷ rest))
-
-  pub members_pieces-longer : (ms : plain.Members) (rest : List Piece) → length rest < length (members_pieces ms rest)
-  members_pieces-longer (one m) rest = node_pieces-longer m rest
-  members_pieces-longer (and m ms) rest = omega (arith, node_pieces-longer m (byte colon ∷ members_pieces ms rest), members_pieces-longer ms rest)
-
-  pub body_pieces-longer : (body : plain.Body) (rest : List Piece) → length rest < length (body_pieces body rest)
-  body_pieces-longer (list ms) rest = members_pieces-longer ms rest
-  body_pieces-longer (reversion ms ns) rest = omega (arith, members_pieces-longer ms (byte stroke ∷ members_pieces ns rest), members_pieces-longer ns rest)
 
 -- a member more at the end of a list
 pub members_pieces-push : (first : plain.Node) (ms : List Node) (m : Node) (rest : List Piece)

@@ -103,21 +103,17 @@ unfolding NoNode NoMembers
 no_first d ts none (one m) r deep ends e = none m r deep e
 no_first d ts none (and m ms) r deep ends e = none m (byte colon ∷ members_pieces ms r) (omega arith) e
 
+-- behind a member and `:` a list has to come
+pub no_tail : (d : ℕ) (m : Node) (ts us : List Piece) → ts ≡ node_pieces m (byte colon ∷ us) → NoMembers d us → NoMembers d ts
+unfolding NoMembers
+no_tail d m ts us s none (one n) r deep ends e = ends us (sym (node_unique m n (byte colon ∷ us) r (sym s ∙ e)).1)
+no_tail d m ts us s none (and n ns) r deep ends e =
+    none ns r (omega arith) ends (behind (node_unique m n (byte colon ∷ us) (byte colon ∷ members_pieces ns r) (sym s ∙ e)).1)
+
 -- behind `:` a member has to come
 pub no_next : (d : ℕ) (ms : Members) (ts us : List Piece) → ts ≡ members_pieces ms (byte colon ∷ us) → NoNode d us → NoMembers d ts
-unfolding NoNode NoMembers
-no_next d ms ts us s none ns r deep ends e = stuck ms ns deep (sym s ∙ e)
-  where
-    first : (ns : Members) → nest_members ns ≤ d → us ≡ members_pieces ns r → ⊥
-    first (one n) deep f = none n r deep f
-    first (and n ns) deep f = none n (byte colon ∷ members_pieces ns r) (omega arith) f
-
-    stuck : (ms ns : Members) → nest_members ns ≤ d → members_pieces ms (byte colon ∷ us) ≡ members_pieces ns r → ⊥
-    stuck (one m) (one n) deep f = ends us (sym (node_unique m n (byte colon ∷ us) r f).1)
-    stuck (one m) (and n ns) deep f = first ns (omega arith) (behind (node_unique m n (byte colon ∷ us) (byte colon ∷ members_pieces ns r) f).1)
-    stuck (and m ms) (one n) deep f = ends _ (sym (node_unique m n (byte colon ∷ members_pieces ms (byte colon ∷ us)) r f).1)
-    stuck (and m ms) (and n ns) deep f =
-        stuck ms ns (omega arith) (behind (node_unique m n (byte colon ∷ members_pieces ms (byte colon ∷ us)) (byte colon ∷ members_pieces ns r) f).1)
+no_next d (one m) ts us s none = no_tail d m ts us s (no_first d us none)
+no_next d (and m ms) ts us s none = no_tail d m ts (members_pieces ms (byte colon ∷ us)) s (no_next d ms _ us refl none)
 
 -- no body begins where no list does
 pub no_first_list : (d : ℕ) (ts : List Piece) → NoMembers d ts → NoBody d ts

@@ -15,12 +15,6 @@ use Rattle.halo_parse.proofs.Heads.{head_one}
 use Rattle.halo_parse.proofs.Sets.{causes_one}
 use Rattle.halo_parse.proofs.Marks.{content_one}
 
--- behind a number `|` has to come
-pub no_stroke : (years : List ℕ) (ts us : List Piece) → ts ≡ number years ∷ us → NotNext stroke us → NoDefer ts
-unfolding NoDefer
-no_stroke years ts us s other None rest ends e = ends years us (sym e ∙ s)
-no_stroke years ts us s other (Some more) rest ends e = other rest (behind (sym s ∙ e))
-
 -- a deferral is told by its pieces
 pub defer_one : (c d : Option (List ℕ)) (r s : List Piece) → DeferEnds c r → DeferEnds d s → defer_pieces c r ≡ defer_pieces d s → (c ≡ d) × (r ≡ s)
 defer_one None None r s u v e = (refl, e)

@@ -1,4 +1,4 @@
-use Rattle.halo_parse.proofs.Symbols.{no_stroke}
+use Rattle.halo_parse.proofs.RefusedSymbols.{no_stroke}
 use Rattle.halo_parse.proofs.word.read_deferral.Goals as goal
 
 pub returns-in_err-expect-clause-syntax : goal.returns-in_err-expect-clause-syntax

@@ -1,61 +1,52 @@
-use Rattle.std.proofs.Common.{sym, subst, ◌∙◌, arith}
-use Rattle.halo_parse.specs.Absent.{NoDefer, NoCauses, NoContent, NoSymbol}
+use Rattle.std.proofs.Common.{◌≡◌, ◌∷◌, List, refl, sym, ap, ◌∙◌, arith}
+use Rattle.halo_parse.specs.Characters.{square_open}
+use Rattle.halo_parse.specs.Piece.{Piece, byte}
+use Rattle.halo_parse.specs.Absent.{NoDefer, NoCauses, NoContent}
 use Rattle.halo_parse.specs.SymbolView.{plain_vary}
-use Rattle.halo_parse.specs.Proper.{MayHaveCauses, MayHaveMark}
-use Rattle.halo_parse.proofs.Unique.{behind}
-use Rattle.halo_parse.proofs.Symbols.{text_one, defer_ends, causes_end, content_ends, after_defer, after_head, after_causes, after_content}
+use Rattle.halo_parse.proofs.Symbols.{text_one}
+use Rattle.halo_parse.proofs.RefusedSymbols.{head_read, no_defer, no_head, no_causes, no_brackets, no_content, no_square_close}
 use Rattle.halo_parse.proofs.word.symbol.Goals as goal
 
 pub returns-in_err-defer-clause-syntax : goal.returns-in_err-defer-clause-syntax
-unfolding NoDefer NoSymbol
-returns-in_err-defer-clause-syntax c failed s rest allowed deep e =
+returns-in_err-defer-clause-syntax c failed =
     let none : NoDefer c.args.reader.now = grind arith in
-    none s.defer _ (defer_ends s.defer _ _) e
+    no_defer _ _ none
 
 pub returns-in_err-name-clause-syntax : goal.returns-in_err-name-clause-syntax
-unfolding NoSymbol
-returns-in_err-name-clause-syntax c failed s rest allowed deep e =
-    let defer = after_defer _ _ s rest c.in_ok-defer.ensures.ends (sym c.in_ok-defer.ensures.ok ∙ e) in
-    c.in_err-name.ensures.1 _ _ defer.1
+returns-in_err-name-clause-syntax c failed =
+    no_head _ _ _ _ c.in_ok-defer.ensures.ends c.in_ok-defer.ensures.ok (λ v k rest proper e. c.in_err-name.ensures.1 _ _ e)
 
 pub returns-in_default-clause-syntax : goal.returns-in_default-clause-syntax
-unfolding NoSymbol
-returns-in_default-clause-syntax c failed s rest allowed deep e =
-    let defer = after_defer _ _ s rest c.in_ok-defer.ensures.ends (sym c.in_ok-defer.ensures.ok ∙ e) in
-    c.in_default.ensures.none s.vary s.kind allowed.vary (text_one (sym c.in_ok-name.ensures ∙ defer.1))
+returns-in_default-clause-syntax c failed =
+    no_head _ _ _ _ c.in_ok-defer.ensures.ends c.in_ok-defer.ensures.ok (λ v k rest proper e. c.in_default.ensures.none v k proper (text_one (sym c.in_ok-name.ensures ∙ e)))
 
 pub returns-in_err-causes-clause-syntax : goal.returns-in_err-causes-clause-syntax
-unfolding NoCauses NoSymbol
-returns-in_err-causes-clause-syntax c failed s rest allowed deep e =
-    let none : NoCauses c.in-Some.head.kind c.name.new.self = grind arith in
-    let defer = after_defer _ _ s rest c.in_ok-defer.ensures.ends (sym c.in_ok-defer.ensures.ok ∙ e) in
-    let head = after_head (plain_vary c.in-Some.head.vary) c.in-Some.head.kind _ _ s rest c.in-Some.ensures.proper allowed.vary c.in-Some.ensures.text (sym c.in_ok-name.ensures ∙ defer.1) in
-    none s.causes _ (subst (λ kind. MayHaveCauses kind s.causes) (sym head.0.1) allowed.causes) (causes_end s.causes _) head.1
+returns-in_err-causes-clause-syntax c failed =
+    let v = plain_vary c.in-Some.head.vary in
+    let k = c.in-Some.head.kind in
+    let none : NoCauses k c.name.new.self = grind arith in
+    let read = head_read _ _ v k _ _ _ _ c.in_ok-defer.ensures.ok c.in_ok-name.ensures c.in-Some.ensures.text c.in-Some.ensures.proper refl in
+    no_causes _ v k _ _ read none
 
 pub returns-in_err-expect-clause-syntax : goal.returns-in_err-expect-clause-syntax
-unfolding NoSymbol
-returns-in_err-expect-clause-syntax c failed s rest allowed deep e =
-    let defer = after_defer _ _ s rest c.in_ok-defer.ensures.ends (sym c.in_ok-defer.ensures.ok ∙ e) in
-    let head = after_head (plain_vary c.in-Some.head.vary) c.in-Some.head.kind _ _ s rest c.in-Some.ensures.proper allowed.vary c.in-Some.ensures.text (sym c.in_ok-name.ensures ∙ defer.1) in
-    let causes = after_causes _ _ s rest c.in_ok-causes.ensures.ends (sym c.in_ok-causes.ensures.ok ∙ head.1) in
-    c.in_err-expect.ensures.1 _ causes.1
+returns-in_err-expect-clause-syntax c failed =
+    let v = plain_vary c.in-Some.head.vary in
+    let k = c.in-Some.head.kind in
+    let read = head_read _ _ v k _ _ _ _ c.in_ok-defer.ensures.ok c.in_ok-name.ensures c.in-Some.ensures.text c.in-Some.ensures.proper c.in_ok-causes.ensures.ok in
+    no_brackets _ v k _ _ _ read c.in_ok-causes.ensures.ends (λ s rest allowed kind deep e. c.in_err-expect.ensures.1 _ e)
 
 pub returns-in_err-content-clause-syntax : goal.returns-in_err-content-clause-syntax
-unfolding NoContent NoSymbol
-returns-in_err-content-clause-syntax c failed s rest allowed deep e =
-    let none : NoContent c.in-Some.head.kind c.args.depth c.expect.new.self = grind arith in
-    let defer = after_defer _ _ s rest c.in_ok-defer.ensures.ends (sym c.in_ok-defer.ensures.ok ∙ e) in
-    let head = after_head (plain_vary c.in-Some.head.vary) c.in-Some.head.kind _ _ s rest c.in-Some.ensures.proper allowed.vary c.in-Some.ensures.text (sym c.in_ok-name.ensures ∙ defer.1) in
-    let causes = after_causes _ _ s rest c.in_ok-causes.ensures.ends (sym c.in_ok-causes.ensures.ok ∙ head.1) in
-    let brackets = behind (sym c.in_ok-expect.ensures ∙ causes.1) in
-    none s.mark s.body _ (subst (λ kind. MayHaveMark kind s.mark s.body) (sym head.0.1) allowed.mark) deep (content_ends s.mark s.body rest) brackets
+returns-in_err-content-clause-syntax c failed =
+    let v = plain_vary c.in-Some.head.vary in
+    let k = c.in-Some.head.kind in
+    let none : NoContent k c.args.depth c.expect.new.self = grind arith in
+    let read = head_read _ _ v k _ _ _ _ c.in_ok-defer.ensures.ok c.in_ok-name.ensures c.in-Some.ensures.text c.in-Some.ensures.proper c.in_ok-causes.ensures.ok in
+    no_content _ v k _ _ _ _ read c.in_ok-causes.ensures.ends c.in_ok-expect.ensures none
 
 pub returns-in_err-expect-2-clause-syntax : goal.returns-in_err-expect-2-clause-syntax
-unfolding NoSymbol
-returns-in_err-expect-2-clause-syntax c failed s rest allowed deep e =
-    let defer = after_defer _ _ s rest c.in_ok-defer.ensures.ends (sym c.in_ok-defer.ensures.ok ∙ e) in
-    let head = after_head (plain_vary c.in-Some.head.vary) c.in-Some.head.kind _ _ s rest c.in-Some.ensures.proper allowed.vary c.in-Some.ensures.text (sym c.in_ok-name.ensures ∙ defer.1) in
-    let causes = after_causes _ _ s rest c.in_ok-causes.ensures.ends (sym c.in_ok-causes.ensures.ok ∙ head.1) in
-    let brackets = behind (sym c.in_ok-expect.ensures ∙ causes.1) in
-    let content = after_content _ _ _ _ s rest c.in_ok-content.ensures.allowed allowed c.in_ok-content.ensures.ends (sym c.in_ok-content.ensures.ok ∙ brackets) in
-    c.in_err-expect-2.ensures.1 _ content.2
+returns-in_err-expect-2-clause-syntax c failed =
+    let v = plain_vary c.in-Some.head.vary in
+    let k = c.in-Some.head.kind in
+    let read = head_read _ _ v k _ _ _ _ c.in_ok-defer.ensures.ok c.in_ok-name.ensures c.in-Some.ensures.text c.in-Some.ensures.proper c.in_ok-causes.ensures.ok in
+    let opens = c.in_ok-expect.ensures ∙ ap (λ (ps : List Piece). byte square_open ∷ ps) c.in_ok-content.ensures.ok in
+    no_square_close _ v k _ _ _ _ _ _ read c.in_ok-causes.ensures.ends opens c.in_ok-content.ensures.allowed c.in_ok-content.ensures.ends c.in_err-expect-2.ensures.1
