@@ -1,5 +1,5 @@
 -- A body comes next or none does: the descent once more, over pieces, to any depth.
-use Rattle.std.proofs.Common.{◌≡◌, ◌≢◌, ◌⊎◌, ◌≤◌, ◌<◌, ◌+◌, ◌-◌, ℕ, zero, suc, max, List, [], ◌∷◌, length, ap, arith, inl, inr, refl, subst, sym, ◌∙◌}
+use Rattle.std.proofs.Common.{◌≡◌, ◌⊎◌, ◌≤◌, ◌<◌, ◌-◌, ℕ, zero, suc, List, [], ◌∷◌, length, ap, arith, inl, inr, refl, subst, sym, ◌∙◌}
 use Rattle.std.proofs.lemmas.Bool.{cases_eq}
 use Rattle.halo_parse.specs.Characters.{round_open, round_close, slash, colon, angle_open, angle_close, square_open, square_close, stroke}
 use Rattle.halo_parse.specs.Piece.{Piece, name, bar, number, byte}

@@ -1,5 +1,5 @@
 -- What comes next is decided.
-use Rattle.std.proofs.Common.{◌≡◌, ◌⊎◌, ◌+◌, ℕ, List, [], ◌∷◌, ap, arith, inl, inr, refl}
+use Rattle.std.proofs.Common.{◌≡◌, ◌⊎◌, ℕ, List, [], ◌∷◌, ap, arith, inl, inr, refl}
 use Rattle.std.proofs.lemmas.Bool.{cases_eq}
 use Rattle.halo_parse.specs.Piece.{Piece, name, bar, number, byte}
 use Rattle.halo_parse.specs.Next.{NotNext, NoNumberNext, NoNameNext}

@@ -1,5 +1,5 @@
 -- How many pieces there are.
-use Rattle.std.proofs.Common.{◌≡◌, ◌+◌, ◌<◌, ◌≤◌, ℕ, zero, suc, max, List, [], ◌∷◌, Option, Some, None, length, arith}
+use Rattle.std.proofs.Common.{◌+◌, ◌<◌, ◌≤◌, ℕ, zero, suc, List, [], ◌∷◌, Option, Some, None, length, arith}
 use Rattle.halo_parse.specs.Characters.{round_close, colon, caret, square_open, square_close, brace_close, stroke}
 use Rattle.halo_parse.specs.Bytes.{head_text}
 use Rattle.halo_parse.specs.Piece.{Piece, name, number, byte}

@@ -1,11 +1,11 @@
 -- Lists grow at their ends.
-use Rattle.std.proofs.Common.{◌≡◌, ◌+◌, ◌<◌, max, List, [], ◌∷◌, ◌++◌, length, refl, ap, arith}
-use Rattle.halo_parse.specs.Characters.{round_close, colon, stroke}
+use Rattle.std.proofs.Common.{◌≡◌, max, List, [], ◌∷◌, ◌++◌, refl, ap, arith}
+use Rattle.halo_parse.specs.Characters.{colon}
 use Rattle.halo_parse.specs.Piece.{Piece, byte}
 use Rattle.halo_parse.specs.Tree as plain
 use Rattle.halo_parse.specs.Tree.{life, term, last, at_least, exactly, group, one, and, list, reversion}
-use Rattle.halo_parse.specs.Nesting.{nest, nest_members, nest_body}
-use Rattle.halo_parse.specs.Pieces.{node_pieces, members_pieces, body_pieces}
+use Rattle.halo_parse.specs.Nesting.{nest, nest_members}
+use Rattle.halo_parse.specs.Pieces.{node_pieces, members_pieces}
 use Rattle.halo_parse.specs.View.{plain_node, members_of}
 use Rattle.halo_parse.proofs.Lengths.{node_pieces-longer}
 use Rattle.halo_parse.specs.declared.tree.Node.{Node}

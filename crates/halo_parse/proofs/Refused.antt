@@ -3,7 +3,7 @@ use Rattle.std.proofs.Common.{◌≡◌, ◌≢◌, ◌<◌, ◌≤◌, ◌-◌,
 use Rattle.halo_parse.specs.Characters.{round_open, round_close, slash, colon, angle_open, angle_close, square_open, square_close, stroke}
 use Rattle.halo_parse.specs.Piece.{Piece, bar, number, byte}
 use Rattle.halo_parse.specs.Tree.{Node, life, term, last, at_least, exactly, group, Members, one, and, Body, list, reversion}
-use Rattle.halo_parse.specs.Nesting.{nest, nest_members, nest_body}
+use Rattle.halo_parse.specs.Nesting.{nest, nest_body}
 use Rattle.halo_parse.specs.Pieces.{node_pieces, members_pieces, body_pieces}
 use Rattle.halo_parse.specs.Absent.{NoNode, NoMembers, NoBracketed, NoBody}
 use Rattle.halo_parse.specs.Next.{NotNext}

@@ -12,7 +12,7 @@ use Rattle.halo_parse.specs.Pieces.{defer_pieces, causes_pieces, content_pieces,
 use Rattle.halo_parse.specs.Next.{NotNext, DeferEnds, CausesEnd, ContentEnds}
 use Rattle.halo_parse.specs.Absent.{NoDefer, NoCauses, NoContent, NoSymbol}
 use Rattle.halo_parse.proofs.Unique.{behind}
-use Rattle.halo_parse.proofs.Symbols.{defer_ends, causes_end, content_ends, in_brackets, text_one, after_defer, after_head, after_causes, after_content}
+use Rattle.halo_parse.proofs.Symbols.{defer_ends, causes_end, content_ends, in_brackets, after_defer, after_head, after_causes, after_content}
 
 -- the deferral and the head of a symbol come next, and these pieces stand behind them
 pub record HeadRead (v : Vary) (k : Kind) (ts us : List Piece) : Type 0 where

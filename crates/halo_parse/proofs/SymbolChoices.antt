@@ -1,11 +1,11 @@
 -- A symbol comes next or none does.
-use Rattle.std.proofs.Common.{◌≡◌, ◌⊎◌, ◌≤◌, ◌<◌, ◌+◌, ℕ, zero, suc, List, [], ◌∷◌, length, Option, Some, None, ap, ap₂, arith, inl, inr, refl, subst, sym, ◌∙◌}
+use Rattle.std.proofs.Common.{◌≡◌, ◌⊎◌, ◌≤◌, ◌<◌, ℕ, zero, suc, List, [], ◌∷◌, length, Option, Some, None, ap, ap₂, arith, inl, inr, refl, subst, sym, ◌∙◌}
 use Rattle.halo_status.specs.declared.pay.Kind.{Kind}
 use Rattle.halo_status.specs.declared.pay.Kind.TheVariants.{Insurance, Immediate, Due}
-use Rattle.halo_parse.specs.Characters.{comma, colon, caret, square_open, square_close, brace_open, brace_close, stroke}
+use Rattle.halo_parse.specs.Characters.{comma, caret, square_open, square_close, brace_open, brace_close, stroke}
 use Rattle.halo_parse.specs.Piece.{Piece, name, number, byte}
 use Rattle.halo_parse.specs.Tree.{Members, one, and, Body, list, reversion, member_count}
-use Rattle.halo_parse.specs.Symbol.{Vary, Names, Mark, Symbol}
+use Rattle.halo_parse.specs.Symbol.{Names, Mark, Symbol}
 use Rattle.halo_parse.specs.Bytes.{head_text}
 use Rattle.halo_parse.specs.Proper.{MayHaveCauses, MayHaveMark, IsAllowed}
 use Rattle.halo_parse.specs.Nesting.{nest_body}
@@ -18,7 +18,7 @@ use Rattle.halo_parse.proofs.Marks.{list_one, marked_pieces-parts, no_body, no_m
 use Rattle.halo_parse.proofs.Symbols.{text_one}
 use Rattle.halo_parse.proofs.RefusedSymbols.{head_read, no_stroke, no_defer, no_head, no_causes, no_brackets, no_content, no_square_close}
 use Rattle.halo_parse.proofs.Choices.{byte_next, number_next, name_next}
-use Rattle.halo_parse.proofs.BodyChoices.{AList, ABody, list_to, body_to}
+use Rattle.halo_parse.proofs.BodyChoices.{list_to, body_to}
 use Rattle.halo_parse.proofs.HeadChoices.{AHead, head_choice}
 
 -- a kind is that of an insurance or is not

@@ -1,15 +1,14 @@
 -- Pieces begin with at most one symbol, and what is left behind its parts.
 use Rattle.std.proofs.Common.{◌≡◌, ℕ, List, ◌∷◌, Option, Some, None, refl, sym, ap, ◌∙◌, arith}
 use Rattle.halo_status.specs.declared.pay.Kind.{Kind}
-use Rattle.halo_parse.specs.Characters.{square_open, square_close, stroke}
-use Rattle.halo_parse.specs.Piece.{Piece, name, number, byte}
+use Rattle.halo_parse.specs.Characters.{square_open, square_close}
+use Rattle.halo_parse.specs.Piece.{Piece, name, byte}
 use Rattle.halo_parse.specs.Tree.{Body, list, reversion}
 use Rattle.halo_parse.specs.Symbol.{Vary, Names, Mark, Symbol}
 use Rattle.halo_parse.specs.Bytes.{head_text}
 use Rattle.halo_parse.specs.Proper.{IsProperVary, IsAllowed, MayHaveMark}
 use Rattle.halo_parse.specs.Pieces.{defer_pieces, causes_pieces, content_pieces, symbol_pieces}
-use Rattle.halo_parse.specs.Next.{NotNext, DeferEnds, CausesEnd, ContentEnds}
-use Rattle.halo_parse.specs.Absent.{NoDefer}
+use Rattle.halo_parse.specs.Next.{DeferEnds, CausesEnd, ContentEnds}
 use Rattle.halo_parse.proofs.Unique.{first_code, behind}
 use Rattle.halo_parse.proofs.Heads.{head_one}
 use Rattle.halo_parse.proofs.Sets.{causes_one}

@@ -1,5 +1,5 @@
 -- A word spells a symbol or none, and a status or none.
-use Rattle.std.proofs.Common.{◌≡◌, ◌⊎◌, ◌≤◌, ◌+◌, ℕ, List, [], ◌∷◌, length, map, ap, arith, inl, inr, refl, subst, sym, ◌∙◌}
+use Rattle.std.proofs.Common.{◌≡◌, ◌⊎◌, ℕ, List, [], ◌∷◌, length, map, ap, arith, inl, inr, refl, sym, ◌∙◌}
 use Rattle.halo_lex.specs.Lexeme as lexeme
 use Rattle.halo_lex.specs.Lexeme.{Lexeme, texts}
 use Rattle.halo_lex.specs.Cut.{lexeme_of}
@@ -9,8 +9,7 @@ use Rattle.halo_parse.specs.Characters.{bar_text}
 use Rattle.halo_parse.specs.Piece.{Piece, name, bar, number, byte, as_lexeme, IsPieceOf}
 use Rattle.halo_parse.specs.Tree.{Body}
 use Rattle.halo_parse.specs.Symbol.{Symbol}
-use Rattle.halo_parse.specs.Nesting.{nest_body}
-use Rattle.halo_parse.specs.Pieces.{body_pieces, content_pieces, symbol_pieces}
+use Rattle.halo_parse.specs.Pieces.{body_pieces, symbol_pieces}
 use Rattle.halo_parse.specs.Absent.{NoBody, NoSymbol}
 use Rattle.halo_parse.specs.Spells.{SpellsStatus, SpellsSymbol}
 use Rattle.halo_parse.proofs.Lengths.{body_pieces-longer, symbol_pieces-longer}

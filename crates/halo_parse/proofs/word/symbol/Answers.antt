@@ -1,4 +1,4 @@
-use Rattle.std.proofs.Common.{◌≡◌, ◌∷◌, List, refl, sym, ap, ◌∙◌, arith}
+use Rattle.std.proofs.Common.{◌∷◌, List, refl, sym, ap, ◌∙◌, arith}
 use Rattle.halo_parse.specs.Characters.{square_open}
 use Rattle.halo_parse.specs.Piece.{Piece, byte}
 use Rattle.halo_parse.specs.Absent.{NoDefer, NoCauses, NoContent}
