@@ -32,9 +32,10 @@ IsPiece bar = ⊤
 IsPiece (number digits) = IsNumber digits
 IsPiece (byte b) = is_symbol_byte b ≡ true
 
--- a lexeme as a piece, where the name `bar` is the piece `bar`
+-- the piece that a lexeme is
 pub record IsPieceOf (lexeme : Lexeme) (piece : Piece) : Type 0 where
   pub same : as_lexeme piece ≡ lexeme
+  -- the name `bar` is the piece `bar`
   pub apart : piece ≢ name bar_text
 
 -- the texts of pieces one after the other
@@ -46,31 +47,31 @@ abbrev pub ArePieces : List Piece → Type 0
 ArePieces [] = ⊤
 ArePieces (piece ∷ pieces) = IsPiece piece × Follows (as_lexeme piece) (piece_texts pieces) × ArePieces pieces
 
--- a piece as its kind and its text, for a code
+-- the number of a piece's kind, with the byte where it is one, and its text
 abbrev pub kind_and_text : Piece → ℕ × List ℕ
 kind_and_text (name text) = (0, text)
 kind_and_text bar = (1, [])
 kind_and_text (number digits) = (2, digits)
 kind_and_text (byte b) = (suc (suc (suc b)), [])
 
--- the piece of a kind and a text
+-- the piece that such a number and a text stand for
 abbrev pub piece_of_parts : ℕ → List ℕ → Piece
 piece_of_parts zero text = name text
 piece_of_parts (suc zero) text = bar
 piece_of_parts (suc (suc zero)) text = number text
 piece_of_parts (suc (suc (suc b))) text = byte b
 
--- the piece that has this kind and text
+-- the same of them as a pair
 abbrev pub piece_of : ℕ × List ℕ → Piece
 piece_of parts = piece_of_parts parts.0 parts.1
 
--- a piece comes back from its kind and text
+-- a piece is what they stand for
 pub piece_of-kind_and_text : (piece : Piece) → piece_of (kind_and_text piece) ≡ piece
 piece_of-kind_and_text (name text) = refl
 piece_of-kind_and_text bar = refl
 piece_of-kind_and_text (number digits) = refl
 piece_of-kind_and_text (byte b) = refl
 
--- lists of pieces can be told apart
+-- lists of pieces are told apart by their codes
 abbrev pub coded_pieces : Coded (List Piece)
 coded_pieces = coded_list (code_by (ℕ × List ℕ) (coded× coded_ℕ (coded_list coded_ℕ)) kind_and_text piece_of piece_of-kind_and_text)

@@ -53,7 +53,8 @@ fn bracketed<'a>(
     reader: &mut Reader<'_, 'a>,
     depth: usize,
 ) -> Result<Members<'a>, WordError>
-    ensures ok { IfOk result (λ ms. reader.old ≡ byte round_open ∷ members_pieces (plain_members ms) (byte round_close ∷ reader.new)) }
+    ensures ok { IfOk result (λ ms. reader.old
+        ≡ byte round_open ∷ members_pieces (plain_members ms) (byte round_close ∷ reader.new)) }
     ensures deep { IfOk result (λ ms. nest_members (plain_members ms) < depth) }
     ensures syntax { result ≡ Err WordError.Syntax → NoBracketed depth reader.old }
 {
@@ -73,7 +74,8 @@ fn group<'a>(
     reader: &mut Reader<'_, 'a>,
     depth: usize,
 ) -> Result<Node<'a>, WordError>
-    ensures ok { IfOk result (λ node. byte round_open ∷ reader.old ≡ node_pieces (plain_node node) reader.new) }
+    ensures ok { IfOk result (λ node. byte round_open ∷ reader.old
+        ≡ node_pieces (plain_node node) reader.new) }
     ensures deep { IfOk result (λ node. nest (plain_node node) ≤ depth) }
     ensures syntax { result ≡ Err WordError.Syntax → NoNode depth (byte round_open ∷ reader.old) }
 {
@@ -134,10 +136,12 @@ pub fn more_members<'a>(
     mut members: Members<'a>,
 ) -> Result<Members<'a>, WordError>
     requires { nest_members (plain_members members) ≤ depth }
-    ensures ok { IfOk result (λ ms. members_pieces (plain_members members.entry) reader.old ≡ members_pieces (plain_members ms) reader.new) }
+    ensures ok { IfOk result (λ ms. members_pieces (plain_members members.entry) reader.old
+        ≡ members_pieces (plain_members ms) reader.new) }
     ensures ends { IfOk result (λ _. NotNext colon reader.new) }
     ensures deep { IfOk result (λ ms. nest_members (plain_members ms) ≤ depth) }
-    ensures syntax { result ≡ Err WordError.Syntax → NoMembers depth (members_pieces (plain_members members.entry) reader.old) }
+    ensures syntax { result ≡ Err WordError.Syntax
+        → NoMembers depth (members_pieces (plain_members members.entry) reader.old) }
 {
     while reader.takes(b':') {
         let next = node(alloc, reader, depth)?;

@@ -19,7 +19,8 @@ pub fn read_causes<'a>(
     reader: &mut Reader<'_, 'a>,
     kind: Kind,
 ) -> Result<Option<Names<'a>>, WordError>
-    ensures ok { IfOk result (λ causes. reader.old ≡ causes_pieces (option_map plain_names causes) reader.new) }
+    ensures ok { IfOk result (λ causes. reader.old
+        ≡ causes_pieces (option_map plain_names causes) reader.new) }
     ensures ends { IfOk result (λ causes. CausesEnd (option_map plain_names causes) reader.new) }
     ensures allowed { IfOk result (λ causes. MayHaveCauses kind (option_map plain_names causes)) }
     ensures syntax { result ≡ Err WordError.Syntax → NoCauses kind reader.old }

@@ -24,7 +24,8 @@ pub struct Content<'a> {
     pub mark: Option<Mark<'a>>,
 }
 
-// Reads a body, as far as it goes. Only that of an insurance may have a mark, and then it is one list.
+// Reads a body, as far as it goes. Only that of an insurance may have a mark, and then it is one
+// list.
 #[tactic(auto, using(crate::proofs::Shapes::shapes))]
 pub fn read_content<'a>(
     alloc: Global,
@@ -32,9 +33,13 @@ pub fn read_content<'a>(
     kind: Kind,
     depth: usize,
 ) -> Result<Content<'a>, WordError>
-    ensures ok { IfOk result (λ content. reader.old ≡ content_pieces (option_map plain_mark content.mark) (plain_body content.body) reader.new) }
-    ensures ends { IfOk result (λ content. ContentEnds (option_map plain_mark content.mark) (plain_body content.body) reader.new) }
-    ensures allowed { IfOk result (λ content. MayHaveMark kind (option_map plain_mark content.mark) (plain_body content.body)) }
+    ensures ok { IfOk result (λ content. reader.old
+        ≡ content_pieces (option_map plain_mark content.mark) (plain_body content.body)
+        reader.new) }
+    ensures ends { IfOk result (λ content.
+        ContentEnds (option_map plain_mark content.mark) (plain_body content.body) reader.new) }
+    ensures allowed { IfOk result (λ content.
+        MayHaveMark kind (option_map plain_mark content.mark) (plain_body content.body)) }
     ensures deep { IfOk result (λ content. nest_body (plain_body content.body) ≤ depth) }
     ensures syntax { result ≡ Err WordError.Syntax → NoContent kind depth reader.old }
 {

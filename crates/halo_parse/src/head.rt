@@ -2,8 +2,8 @@
 ghost use Rattle.std.specs.Prelude.{◌≡◌, ◌≤◌, List, ℕ, All, take, drop, length, IfSome, IfNone};
 ghost use Rattle.halo_text.specs.Number.{IsDigit};
 ghost use Rattle.halo_lex.specs.Lexeme.{BeginsWithout};
-ghost use Rattle.halo_status.specs.declared.pay.Kind.{Kind as SpecKind};
-ghost use Rattle.halo_parse.specs.Symbol.{Vary as SpecVary};
+ghost use Rattle.halo_status.specs.declared.pay.Kind.{Kind as PlainKind};
+ghost use Rattle.halo_parse.specs.Symbol.{Vary as PlainVary};
 ghost use Rattle.halo_parse.specs.Bytes.{head_text, kind_text};
 ghost use Rattle.halo_parse.specs.Proper.{IsProperVary};
 ghost use Rattle.halo_parse.specs.SymbolView.{plain_vary};
@@ -21,7 +21,7 @@ pub struct Head<'a> {
 // The kind that these letters stand for.
 fn read_kind(letters: &[u8]) -> Option<Kind>
     ensures some { IfSome result (λ kind. letters.now ≡ kind_text kind) }
-    ensures none { IfNone result ((kind : SpecKind) → letters.now ≡ kind_text kind → ⊥) }
+    ensures none { IfNone result ((kind : PlainKind) → letters.now ≡ kind_text kind → ⊥) }
 {
     match letters {
         b"A" => Some(Kind::Insurance),
@@ -49,7 +49,8 @@ fn digit_count(bytes: &[u8]) -> usize
 pub fn read_head<'a>(name: &'a [u8]) -> Option<Head<'a>>
     ensures text { IfSome result (λ head. name.now ≡ head_text (plain_vary head.vary) head.kind) }
     ensures proper { IfSome result (λ head. IsProperVary (plain_vary head.vary)) }
-    ensures none { IfNone result ((vary : SpecVary) (kind : SpecKind) → IsProperVary vary → name.now ≡ head_text vary kind → ⊥) }
+    ensures none { IfNone result ((vary : PlainVary) (kind : PlainKind) → IsProperVary vary
+        → name.now ≡ head_text vary kind → ⊥) }
 {
     match name {
         [b'I', letters @ ..] => Some(Head {

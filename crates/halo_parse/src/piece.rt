@@ -36,7 +36,8 @@ fn piece_at<'a>(word: &'a [u8], token: Token) -> Piece<'a>
 pub fn pieces(alloc: Global, word: &[u8]) -> Result<Vec<Piece<'_>>, WordError>
     ensures ok { IfOk result (λ pieces. ArePieces (map plain_piece pieces.items)) }
     ensures whole { IfOk result (λ pieces. piece_texts (map plain_piece pieces.items) ≡ word.now) }
-    ensures syntax { result ≡ Err WordError.Syntax → (pieces : List PlainPiece) → ArePieces pieces → piece_texts pieces ≡ word.now → ⊥ }
+    ensures syntax { result ≡ Err WordError.Syntax
+        → (pieces : List PlainPiece) → ArePieces pieces → piece_texts pieces ≡ word.now → ⊥ }
 {
     let tokens = match symbol_tokens(alloc, word) {
         Ok(tokens) => tokens,

@@ -36,7 +36,9 @@ impl<'p, 'a> Reader<'p, 'a> {
 
     // The next piece.
     pub fn next(&mut self) -> Option<Piece<'a>>
-        ensures { MatchOption result (self.old ≡ []) (λ piece. self.old ≡ plain_piece piece ∷ self.new) }
+        ensures { MatchOption result
+            (self.old ≡ [])
+            (λ piece. self.old ≡ plain_piece piece ∷ self.new) }
     {
         match self.left {
             [] => None,
