@@ -1,5 +1,0 @@
-use Rattle.halo_parse.proofs.Words.{status_unique}
-use Rattle.halo_parse.proofs.laws.status_is_one.Goals as goal
-
-pub returns : goal.returns
-returns c = status_unique

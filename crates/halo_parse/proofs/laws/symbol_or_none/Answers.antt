@@ -1,5 +1,0 @@
-use Rattle.halo_parse.proofs.WordChoices.{symbol_or_none}
-use Rattle.halo_parse.proofs.laws.symbol_or_none.Goals as goal
-
-pub returns : goal.returns
-returns c = symbol_or_none
