@@ -1,0 +1,5 @@
+use Rattle.halo_spell.proofs.WrittenContracts.{contracts_are_spellable}
+use Rattle.halo_spell.proofs.laws.contracts_are_spellable.Goals as goal
+
+pub returns : goal.returns
+returns c = contracts_are_spellable

@@ -1,0 +1,6 @@
+pub mod Decimal
+pub mod Canonical
+pub mod StatusText
+pub mod Spellable
+pub mod ContractText
+pub mod LineText

@@ -1,0 +1,31 @@
+// Pays.
+ghost use Rattle.std.specs.Prelude.{◌≡◌, ◌++◌, OnErr, OnOk, length};
+ghost use Rattle.halo_status.specs.Pay.{pay_of};
+ghost use Rattle.halo_parse.specs.Draft.{life_names};
+ghost use Rattle.halo_spell.specs.ContractText.{pay_text};
+ghost use Rattle.halo_spell.specs.Spellable.{IsSpellablePay};
+
+use crate::Memory;
+use crate::symbol::write_symbol;
+use halo_parse::contract::LifeLine;
+use halo_status::Pay;
+use halo_table::Tables;
+
+/// Writes the canonical symbol of a valid pay behind a text. Each life that it names has a place in
+/// `lives`, and its causes are causes of the tables. Where there is no memory, the text is as
+/// before.
+pub fn spell_pay(
+    pay: &Pay,
+    lives: &[LifeLine],
+    tables: &Tables,
+    into: &mut Vec<u8>,
+) -> Result<(), Memory>
+    requires { IsSpellablePay (length lives.now) (length tables.now.causes) (pay_of pay.now) }
+    ensures written { OnOk result (into.new.items ≡ into.old.items ++ pay_text (life_names lives.now) tables.now.causes (pay_of pay.now)) }
+    ensures unchanged { OnErr result (into.new.items ≡ into.old.items) }
+{
+    let mut symbol = Vec::new(*into.allocator());
+    write_symbol(pay, lives, tables, &mut symbol)?;
+    into.extend_from_slice(&symbol)?;
+    Ok(())
+}
