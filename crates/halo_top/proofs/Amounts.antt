@@ -16,7 +16,7 @@ use Rattle.halo_model.specs.Premium.{all_lives}
 use Rattle.halo_model.specs.Value.{denominator, due_value, numerator, ranked_numerator, total_numerator}
 use Rattle.halo_model.specs.Widths.{printed_pay_width, printed_total_width}
 use Rattle.halo_table.specs.DecrementTable.{TableFile}
-use Rattle.halo_top.specs.ExactValue.{EnclosesContract, EnclosesPay, EnclosesTotal, due_pay, one_life_basis}
+use Rattle.halo_top.specs.ExactValue.{EnclosesOneLife, EnclosesPay, EnclosesTotal, due_pay, one_life_basis}
 use Rattle.halo_top.specs.declared.one_life.OneLife.{OneLife}
 
 cond-times : (is : Bool) (amount n : ℕ) → cond is (amount * 1 * n) 0 ≡ amount * cond is (1 * 1 * n) 0
@@ -58,5 +58,5 @@ total-of-one b pay ends line =
     record { encloses = rw value at line.encloses; narrow = rw width at line.narrow }
 
 -- a contract's only pay is its total
-pub contract-of-one : (tables : TableFile) (contract : OneLife) (ends : Nano) → EnclosesPay (one_life_basis tables contract.interest contract.life) (due_pay contract.amount) ends → EnclosesContract tables contract ends ends
+pub contract-of-one : (tables : TableFile) (contract : OneLife) (ends : Nano) → EnclosesPay (one_life_basis tables contract.interest contract.life) (due_pay contract.amount) ends → EnclosesOneLife tables contract ends ends
 contract-of-one tables contract ends line = record { pay_line = line; total_line = total-of-one (one_life_basis tables contract.interest contract.life) (due_pay contract.amount) ends line }

@@ -1,13 +1,10 @@
+mod CanonicalContract
 mod Amounts
 mod Calls
-mod Cuts
-mod Digits
 mod Files
-mod InterestLine
-mod LifeLine
 mod OneLifeDue
-mod OneLifeForm
 mod OneStatus
-mod PayLine
 mod Told
 mod Words
+mod OneLifeContract
+mod OnePay

@@ -1,5 +1,5 @@
--- The exact value of a contract of one life, by the model of life contracts, and what its report encloses.
-use Rattle.std.specs.Prelude.{ℕ, List, [], ◌∷◌, None, pos, ◌+ℤ◌, ◌≤ℤ◌}
+-- The exact values of a contract, by the model of life contracts, and what a report encloses.
+use Rattle.std.specs.Prelude.{ℕ, List, [], ◌∷◌, map, Option, None, Some, ⊤, pos, ◌+ℤ◌, ◌≤ℤ◌}
 use Rattle.halo_interest.specs.declared.rate.Rate.{Rate}
 use Rattle.halo_interest.specs.Rates.{rate_of}
 use Rattle.halo_num.specs.Enclosure.{Encloses, EnclosesPrinted}
@@ -13,14 +13,19 @@ use Rattle.halo_table.specs.DecrementTable.{TableFile}
 use Rattle.halo_table.specs.declared.lives.Life.{Life}
 use Rattle.halo_model.specs.Basis.{Basis}
 use Rattle.halo_model.specs.FromTables.{lives_of}
-use Rattle.halo_model.specs.Order.{Ties, declared_order}
+use Rattle.halo_model.specs.Order as model
+use Rattle.halo_model.specs.Order.{all_orders, declared_order}
 use Rattle.halo_model.specs.Premium.{all_lives}
 use Rattle.halo_model.specs.Value.{denominator, numerator, total_numerator}
 use Rattle.halo_model.specs.Widths.{printed_pay_width, printed_total_width}
+use Rattle.halo_parse.specs.Draft.{Draft}
+use Rattle.halo_parse.specs.Reading.{rule_of}
 use Rattle.halo_top.specs.declared.one_life.OneLife.{OneLife}
+use Rattle.halo_parse.specs.declared.ties.Ties.{Ties}
+use Rattle.halo_parse.specs.declared.ties.Ties.TheVariants as rule
 
 -- the basis of a contract: its interest by years, its lives in their tables, and its rule for ties; payments are looked at up to time 200
-abbrev pub basis_of : TableFile → List Rate → List Life → Ties → Basis
+abbrev pub basis_of : TableFile → List Rate → List Life → model.Ties → Basis
 basis_of tables rates lives ties = record {
   p = λ k. (rate_of rates k).p;
   q = λ k. (rate_of rates k).q;
@@ -51,7 +56,32 @@ pub record EnclosesTotal (b : Basis) (pays : List PlainPay) (ends : Nano) : Type
   pub encloses : EnclosesPrinted ends.lo ends.hi (pos (total_numerator b pays 0 all_lives)) (denominator b 0 all_lives)
   pub narrow : ends.hi ≤ℤ (ends.lo +ℤ pos (printed_total_width b pays))
 
--- the enclosures of a report are those of the contract's pay and of its total
-pub record EnclosesContract (tables : TableFile) (contract : OneLife) (pay total : Nano) : Type 0 where
-  pub pay_line : EnclosesPay (one_life_basis tables contract.interest contract.life) (due_pay contract.amount) pay
-  pub total_line : EnclosesTotal (one_life_basis tables contract.interest contract.life) (due_pay contract.amount ∷ []) total
+-- the rule for ties of a contract, as the model has it
+abbrev pub ties_of : Ties → model.Ties
+ties_of rule.Declared = declared_order
+ties_of rule.Even = all_orders
+
+-- the fractions of interest that a contract has
+abbrev pub rates_of : Option (List Rate) → List Rate
+rates_of None = []
+rates_of (Some rates) = rates
+
+-- the basis of a contract
+abbrev pub contract_basis : TableFile → Draft → Basis
+contract_basis tables contract = basis_of tables (rates_of contract.interest) (map (λ declared. declared.life) contract.lives) (ties_of (rule_of contract.ties))
+
+-- each of some pays has its line, which encloses its exact value
+abbrev pub ArePayLines : Basis → List PlainPay → List Nano → Type 0
+ArePayLines b [] [] = ⊤
+ArePayLines b (pay ∷ pays) (ends ∷ lines) = EnclosesPay b pay ends × ArePayLines b pays lines
+ArePayLines b _ _ = ⊥
+
+-- the lines of a report enclose the values of a contract's pays, and of these together
+pub record EnclosesContract (tables : TableFile) (contract : Draft) (lines : List Nano) (total : Nano) : Type 0 where
+  pub pay_lines : ArePayLines (contract_basis tables contract) contract.pays lines
+  pub total_line : EnclosesTotal (contract_basis tables contract) contract.pays total
+
+-- the ends enclose the value of a contract of one life, and its total
+pub record EnclosesOneLife (tables : TableFile) (one : OneLife) (pay total : Nano) : Type 0 where
+  pub pay_line : EnclosesPay (one_life_basis tables one.interest one.life) (due_pay one.amount) pay
+  pub total_line : EnclosesTotal (one_life_basis tables one.interest one.life) (due_pay one.amount ∷ []) total

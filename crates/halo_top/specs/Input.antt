@@ -6,8 +6,11 @@ use Rattle.halo_table.specs.DecrementTable.{TableFile}
 use Rattle.halo_table.specs.Faults.{IsFirstFault, NoFault}
 use Rattle.halo_table.specs.Grouping.{tables_of}
 use Rattle.halo_table.specs.declared.fault.TableFault.{TableFault}
-use Rattle.halo_top.specs.OneLife.{HasOneLifeForm, Writes}
-use Rattle.halo_top.specs.declared.one_life.OneLife.{OneLife}
+use Rattle.halo_parse.specs.Draft.{Draft}
+use Rattle.halo_parse.specs.Faults.{IsContractFault, WritesContract}
+use Rattle.halo_parse.specs.Reading.{HoldsDraft}
+use Rattle.halo_parse.specs.declared.contract.Contract.{Contract}
+use Rattle.halo_parse.specs.declared.fault.ContractFault.{ContractFault}
 use Rattle.halo_top.specs.declared.refusal.InputFile.{InputFile}
 use Rattle.halo_top.specs.declared.refusal.InputFile.TheVariants as file
 use Rattle.halo_top.specs.declared.refusal.Refusal.TheVariants as refusal
@@ -29,10 +32,15 @@ pub record HasTableFault (bytes : List ℕ) (fault : TableFault) : Type 0 where
   pub short : length bytes ≤ limit_of file.Tables
   pub first : IsFirstFault (records_of bytes) fault.row fault.kind
 
--- the bytes of a contract file are few enough, and have the form that is valued with these tables
-pub record IsContract (tables : TableFile) (bytes : List ℕ) : Type 0 where
+-- the bytes of a contract file are few enough, and this is the first fault of their lines with these tables
+pub record HasContractFault (tables : TableFile) (bytes : List ℕ) (fault : ContractFault) : Type 0 where
   pub short : length bytes ≤ limit_of file.Contract
-  pub form : HasOneLifeForm tables bytes
+  pub first : IsContractFault tables bytes fault.line fault.kind
+
+-- the bytes of a contract file are few enough, and write this contract with these tables
+pub record HasContract (tables : TableFile) (bytes : List ℕ) (contract : Draft) : Type 0 where
+  pub short : length bytes ≤ limit_of file.Contract
+  pub writes : WritesContract tables bytes contract
 
 -- the bytes of a file, or a refusal: `Read` only where its count of faults rose, and `TooLong` exactly where the told file is longer than its limit
 abbrev pub LoadsFile : InputFile → Option (List ℕ) → Type 0 → Result (Vec ℕ) Stop → Type 0
@@ -52,10 +60,14 @@ LoadsTables told rose (Err stop.Memory) = ⊤
 LoadsTables told rose (Err _) = ⊥
 
 -- the contract that a contract file writes with these tables, or why there is none
-abbrev pub LoadsContract : TableFile → Option (List ℕ) → Type 0 → Result OneLife Stop → Type 0
-LoadsContract tables told rose (Ok contract) = (bytes : List ℕ) × (length bytes ≤ limit_of file.Contract) × Writes tables bytes contract × IfSome told (λ all. bytes ≡ all)
+abbrev pub LoadsContract : TableFile → Option (List ℕ) → Type 0 → Result Contract Stop → Type 0
+LoadsContract tables told rose (Ok contract) = (bytes : List ℕ) × (plain : Draft) × HasContract tables bytes plain × HoldsDraft contract plain × IfSome told (λ all. bytes ≡ all)
 LoadsContract tables told rose (Err (stop.Refused (refusal.Read file.Contract))) = rose
 LoadsContract tables told rose (Err (stop.Refused (refusal.TooLong file.Contract))) = IfSome told (λ all. limit_of file.Contract < length all)
-LoadsContract tables told rose (Err (stop.Refused refusal.NotBuilt)) = IfSome told (λ all. (length all ≤ limit_of file.Contract) × (HasOneLifeForm tables all → ⊥))
+LoadsContract tables told rose (Err (stop.Refused (refusal.Contract fault))) = IfSome told (λ all. HasContractFault tables all fault)
 LoadsContract tables told rose (Err stop.Memory) = ⊤
 LoadsContract tables told rose (Err _) = ⊥
+
+-- a contract in memory is one that some bytes write with these tables
+abbrev pub IsWrittenSomewhere : TableFile → Contract → Type 0
+IsWrittenSomewhere tables contract = (bytes : List ℕ) × (plain : Draft) × WritesContract tables bytes plain × HoldsDraft contract plain

@@ -3,7 +3,5 @@ pub mod Input
 pub mod OneLife
 pub mod ExactValue
 pub mod Refusal
-pub mod Cut
-pub mod Decimal
 pub mod Report
 pub mod Verdict

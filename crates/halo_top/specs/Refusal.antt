@@ -1,6 +1,8 @@
 -- The line and the status of each refusal.
 use Rattle.std.specs.Prelude.{ℕ, List, ◌++◌, codes}
 use Rattle.std.specs.Fmt.{decimal}
+use Rattle.halo_parse.specs.declared.fault.ContractKind.{ContractKind}
+use Rattle.halo_parse.specs.declared.fault.ContractKind.TheVariants as wrong
 use Rattle.halo_table.specs.declared.fault.TableKind.{TableKind}
 use Rattle.halo_table.specs.declared.fault.TableKind.TheVariants as kind
 use Rattle.halo_top.specs.declared.refusal.InputFile.{InputFile}
@@ -26,17 +28,43 @@ kind_word kind.Age = codes "Age"
 kind_word kind.Decrements = codes "Decrements"
 kind_word kind.Closed = codes "Closed"
 
--- the line that a refusal writes, without its line feed: the fault of a tables file is told with the number of the record, from 1
+-- the word for what is wrong with a line of a contract file
+abbrev pub contract_kind_word : ContractKind → List ℕ
+contract_kind_word wrong.Syntax = codes "Syntax"
+contract_kind_word wrong.Magnitude = codes "Magnitude"
+contract_kind_word wrong.Zero = codes "Zero"
+contract_kind_word wrong.Years = codes "Years"
+contract_kind_word wrong.Order = codes "Order"
+contract_kind_word wrong.Twice = codes "Twice"
+contract_kind_word wrong.NoTable = codes "NoTable"
+contract_kind_word wrong.NoAge = codes "NoAge"
+contract_kind_word wrong.NoLife = codes "NoLife"
+contract_kind_word wrong.NoCause = codes "NoCause"
+contract_kind_word wrong.Rank = codes "Rank"
+contract_kind_word wrong.NotLasting = codes "NotLasting"
+contract_kind_word wrong.Shared = codes "Shared"
+contract_kind_word wrong.NotAtStart = codes "NotAtStart"
+contract_kind_word wrong.NotAlive = codes "NotAlive"
+contract_kind_word wrong.Missing = codes "Missing"
+
+-- the line that a refusal writes, without its line feed: the fault of a file is told with the number of the record or the line, from 1
 abbrev pub words_of : Refusal → List ℕ
 words_of refusal.Usage = codes "usage: halo value T C, check T C, compile T C, explain T C, columns T NAME P/Q, sample N"
 words_of (refusal.Read f) = codes "read fault " ++ file_word f
 words_of (refusal.TooLong f) = codes "too long " ++ file_word f
 words_of (refusal.Table fault) = codes "tables record " ++ decimal fault.row ++ codes " " ++ kind_word fault.kind
+words_of (refusal.Contract fault) = codes "contract line " ++ decimal fault.line ++ codes " " ++ contract_kind_word fault.kind
 words_of refusal.NotBuilt = codes "contract NotBuilt"
 
 -- the line that a refusal writes
 abbrev pub line_of : Refusal → List ℕ
 line_of r = words_of r ++ codes "\n"
+
+-- the status of a fault of a contract file
+abbrev pub contract_status : ContractKind → ℕ
+contract_status wrong.Syntax = 6
+contract_status wrong.Magnitude = 8
+contract_status _ = 7
 
 -- the status of a refusal
 abbrev pub status_of : Refusal → ℕ
@@ -44,4 +72,5 @@ status_of refusal.Usage = 2
 status_of (refusal.Read _) = 3
 status_of (refusal.TooLong _) = 4
 status_of (refusal.Table _) = 5
+status_of (refusal.Contract fault) = contract_status fault.kind
 status_of refusal.NotBuilt = 7

@@ -1,7 +1,7 @@
 -- The text that `value` writes.
 use Rattle.std.specs.Prelude.{ℕ, List, ◌++◌, codes}
 use Rattle.halo_num.specs.declared.nano.Nano.{Nano}
-use Rattle.halo_top.specs.Decimal.{decimal_of}
+use Rattle.halo_spell.specs.Decimal.{decimal_of}
 
 -- a word, and the two ends of an enclosure
 abbrev pub line_with : List ℕ → Nano → List ℕ

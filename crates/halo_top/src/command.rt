@@ -2,10 +2,21 @@
 ghost use Rattle.std.specs.Prelude.{map, string_bytes};
 ghost use Rattle.halo_top.specs.Command.{ReadsWords};
 
-/// What the words ask for.
-pub enum Command<'a> {
-    /// The values of the contract in one file, with the tables in another.
-    Value { tables: &'a str, contract: &'a str },
+/// What a command writes of a contract.
+#[derive(Clone, Copy, Debug, PartialEq, Eq)]
+pub enum Task {
+    /// `value`: its values.
+    Value,
+    /// `check`: its canonical text.
+    Check,
+}
+
+/// What the words ask for: what to write of the contract in one file, with the tables in another.
+#[derive(Clone, Copy)]
+pub struct Command<'a> {
+    pub task: Task,
+    pub tables: &'a str,
+    pub contract: &'a str,
 }
 
 impl<'a> Command<'a> {
@@ -13,12 +24,18 @@ impl<'a> Command<'a> {
     pub fn read(words: &'a [String]) -> Option<Command<'a>>
         ensures { ReadsWords (map string_bytes words.now) result }
     {
-        match words {
-            [name, tables, contract] if name.as_str() == "value" => Some(Command::Value {
-                tables: tables.as_str(),
-                contract: contract.as_str(),
-            }),
-            _ => None,
-        }
+        let [name, tables, contract] = words else {
+            return None;
+        };
+        let task = match name.as_str() {
+            "value" => Task::Value,
+            "check" => Task::Check,
+            _ => return None,
+        };
+        Some(Command {
+            task,
+            tables: tables.as_str(),
+            contract: contract.as_str(),
+        })
     }
 }

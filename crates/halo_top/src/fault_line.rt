@@ -1,9 +1,10 @@
 // The line that a refusal writes, made without memory.
 ghost use Rattle.std.specs.Prelude.{◌≡◌, ◌≤◌, length};
-ghost use Rattle.halo_top.specs.Refusal.{file_word, kind_word, line_of};
+ghost use Rattle.halo_top.specs.Refusal.{contract_kind_word, file_word, kind_word, line_of};
 
 use crate::refusal::{InputFile, Refusal};
 use arrayvec::ArrayString;
+use halo_parse::ContractKind;
 use halo_table::TableKind;
 use itoa::Buffer;
 
@@ -33,6 +34,12 @@ impl Refusal {
                 line.push_str(Buffer::new().format(fault.row));
                 line.push_str(" ");
                 line.push_str(word_of_kind(fault.kind));
+            }
+            Refusal::Contract(fault) => {
+                line.push_str("contract line ");
+                line.push_str(Buffer::new().format(fault.line));
+                line.push_str(" ");
+                line.push_str(word_of_contract_kind(fault.kind));
             }
             Refusal::NotBuilt => line.push_str("contract NotBuilt"),
         }
@@ -68,5 +75,30 @@ fn word_of_kind(kind: TableKind) -> &'static str
         TableKind::Age => "Age",
         TableKind::Decrements => "Decrements",
         TableKind::Closed => "Closed",
+    }
+}
+
+// The word for what is wrong with a line of a contract file.
+fn word_of_contract_kind(kind: ContractKind) -> &'static str
+    ensures word { result.now ≡ contract_kind_word kind }
+    ensures short { length result.now ≤ 10 }
+{
+    match kind {
+        ContractKind::Syntax => "Syntax",
+        ContractKind::Magnitude => "Magnitude",
+        ContractKind::Zero => "Zero",
+        ContractKind::Years => "Years",
+        ContractKind::Order => "Order",
+        ContractKind::Twice => "Twice",
+        ContractKind::NoTable => "NoTable",
+        ContractKind::NoAge => "NoAge",
+        ContractKind::NoLife => "NoLife",
+        ContractKind::NoCause => "NoCause",
+        ContractKind::Rank => "Rank",
+        ContractKind::NotLasting => "NotLasting",
+        ContractKind::Shared => "Shared",
+        ContractKind::NotAtStart => "NotAtStart",
+        ContractKind::NotAlive => "NotAlive",
+        ContractKind::Missing => "Missing",
     }
 }

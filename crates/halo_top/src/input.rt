@@ -3,9 +3,9 @@ ghost use Rattle.std.specs.Prelude.{◌≡◌, ◌≤◌, ℕ, List};
 ghost use Rattle.halo_io.specs.Counts.{Rose};
 ghost use Rattle.halo_top.specs.Input.{LoadsContract, LoadsFile, LoadsTables, limit_of};
 
-use crate::one_life::OneLife;
 use crate::refusal::{InputFile, Refusal, Stop};
 use halo_io::{LoadFault, Shelf, load};
+use halo_parse::{Contract, ContractError, read_contract};
 use halo_table::{Tables, TablesError};
 use std::alloc::Global;
 
@@ -29,15 +29,16 @@ pub fn load_contract<S: Shelf>(
     shelf: &mut S,
     name: &str,
     tables: &Tables,
-) -> Result<OneLife, Stop>
+) -> Result<Contract, Stop>
     ensures same { (n : List ℕ) → S.file shelf.new n ≡ S.file shelf.old n }
     ensures later { (n : List ℕ) → S.faults shelf.old n ≤ S.faults shelf.new n }
     ensures contract { LoadsContract tables.now (S.file shelf.old name.now) (Rose (S.faults shelf.old name.now) (S.faults shelf.new name.now)) result }
 {
     let bytes = load_file(alloc, shelf, name, InputFile::Contract)?;
-    match OneLife::read(&bytes, tables) {
-        Some(contract) => Ok(contract),
-        None => Err(Stop::Refused(Refusal::NotBuilt)),
+    match read_contract(alloc, &bytes, tables) {
+        Ok(contract) => Ok(contract),
+        Err(ContractError::Fault(fault)) => Err(Stop::Refused(Refusal::Contract(fault))),
+        Err(ContractError::Memory) => Err(Stop::Memory),
     }
 }
 

@@ -2,9 +2,8 @@
 #![tactic(auto)]
 
 mod annuity;
+mod check;
 mod command;
-mod cut;
-mod decimal;
 mod fault_line;
 mod input;
 mod one_life;

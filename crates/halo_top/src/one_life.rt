@@ -1,26 +1,17 @@
-// The form of the contracts that are valued: a yearly interest, one life, and an annuity-due on it.
-ghost use Rattle.std.specs.Prelude.{◌≡◌, ℕ, List, IfNone, IfSome};
-ghost use Rattle.halo_text.specs.Number.{number};
-ghost use Rattle.halo_top.specs.OneLife.{HasRow, IsInterestLine, IsLifeLine, IsPayLine, ReadsOneLife};
+// The contracts that are valued so far: one life, and an annuity-due on it.
+ghost use Rattle.std.specs.Prelude.{◌≡◌, ◌≢◌, ℕ, IfNone, IfSome};
+ghost use Rattle.halo_status.specs.Pay.{pay_of};
+ghost use Rattle.halo_top.specs.ExactValue.{due_pay};
+ghost use Rattle.halo_top.specs.OneLife.{IsOfOneLife};
+ghost use Rattle.halo_top.specs.declared.one_life.OneLife.{OneLife as PlainOneLife};
 
-use crate::cut::{after, name_before, number_before};
-use halo_interest::{Interest, LARGEST_PART};
-use halo_table::{Life, Tables};
-
-/// The greatest age in a table, in years.
-const GREATEST_AGE: u64 = 150;
-
-/// The greatest amount of a payment.
-const GREATEST_AMOUNT: u64 = 10_000_000_000;
-
-/// The name that no life has, since it stands for a status.
-const NO_LIFE: &[u8] = b"bar";
-
-/// What stands behind the name of a pay line.
-const PAY_END: &[u8] = b"]\n";
+use halo_interest::Interest;
+use halo_parse::{Contract, Ties};
+use halo_status::{Kind, Pay, Status, Vary};
+use halo_table::Life;
 
 /// A contract of one life: the amount is paid at the start of each year in which it is alive.
-#[derive(Drop)]
+#[derive(Clone, Copy)]
 pub struct OneLife {
     pub interest: Interest,
     pub life: Life,
@@ -28,75 +19,53 @@ pub struct OneLife {
 }
 
 impl OneLife {
-    /// The contract that the bytes of a file write: an interest line, a life line and a pay line,
-    /// each ended by a line feed, with one space between words. None where they have another form.
-    pub fn read(bytes: &[u8], tables: &Tables) -> Option<OneLife>
-        ensures { ReadsOneLife tables.now bytes.now result }
+    /// What a contract is as one of one life; None where it has another form.
+    pub fn of(contract: &Contract) -> Option<OneLife>
+        ensures some { IfSome result (λ one. IsOfOneLife contract.now one) }
+        ensures none { IfNone result ((one : PlainOneLife) → IsOfOneLife contract.now one → ⊥) }
     {
-        let (p, q, rest) = interest_line(bytes)?;
-        let interest = Interest::new(p, q)?;
-        let (name, life, rest) = life_line(rest, tables)?;
-        let amount = pay_line(rest, name)?;
+        let [declared] = contract.lives.as_slice() else {
+            return None;
+        };
+        let [pay] = contract.pays.as_slice() else {
+            return None;
+        };
+        if contract.ties != Ties::Declared
+            || contract.premium.is_some()
+            || !contract.reserves.is_empty()
+        {
+            return None;
+        }
+        let amount = due_amount(pay)?;
         Some(OneLife {
-            interest,
-            life,
+            interest: contract.interest,
+            life: declared.life,
             amount,
         })
     }
 }
 
-// `interest P/Q`: P, Q and what stands behind the line
-fn interest_line(text: &[u8]) -> Option<(u64, u64, &[u8])>
-    ensures none { IfNone result ((p q rest : List ℕ) → IsInterestLine text.now p q rest → ⊥) }
-    ensures some { IfSome result (λ found. (p : List ℕ) × (q : List ℕ) × IsInterestLine text.now p q found.2.now × (found.0 ≡ number p) × (found.1 ≡ number q)) }
+// The amount that a pay pays at the start of each year in which the first life is alive; None where
+// it pays otherwise.
+#[tactic(auto, using(halo_status::proofs::Shapes::shapes))]
+fn due_amount(pay: &Pay) -> Option<u64>
+    ensures some { IfSome result (λ amount. pay_of pay.now ≡ due_pay amount) }
+    ensures none { IfNone result ((amount : ℕ) → pay_of pay.now ≢ due_pay amount) }
 {
-    let rest = after(text, b"interest ")?;
-    let (p, rest) = number_before(rest, LARGEST_PART, b"/")?;
-    let (q, rest) = number_before(rest, LARGEST_PART, b"\n")?;
-    Some((p, q, rest))
-}
-
-// `life NAME TABLE AGE`: the name, the life and what stands behind the line
-fn life_line<'a>(text: &'a [u8], tables: &Tables) -> Option<(&'a [u8], Life, &'a [u8])>
-    ensures none { IfNone result ((life table age rest : List ℕ) (place : ℕ) → IsLifeLine tables.now text.now life table age rest place → ⊥) }
-    ensures some { IfSome result (λ found. (table : List ℕ) × (age : List ℕ) × IsLifeLine tables.now text.now found.0.now table age found.2.now found.1.table × (found.1.age ≡ number age)) }
-{
-    let rest = after(text, b"life ")?;
-    let (name, rest) = name_before(rest, b" ")?;
-    let (table, rest) = name_before(rest, b" ")?;
-    let (age, rest) = number_before(rest, GREATEST_AGE, b"\n")?;
-    if name == NO_LIFE {
+    if pay.kind != Kind::Due || pay.vary != Vary::Level || pay.defer != 0 {
         return None;
     }
-    let life = life_of(tables, table, age as u16)?;
-    Some((name, life, rest))
-}
-
-// The life of this age in the table of this name, where the table has a row at the age.
-fn life_of(tables: &Tables, name: &[u8], age: u16) -> Option<Life>
-    ensures none { IfNone result ((place : ℕ) → HasRow tables.now name.now age place → ⊥) }
-    ensures some { IfSome result (λ life. HasRow tables.now name.now age life.table × (life.age ≡ age)) }
-{
-    let table = tables.find(name)?;
-    if age < tables.first_age(table) || tables.last_age(table) < age {
+    if pay.causes.is_some() || pay.mark.is_some() {
         return None;
     }
-    Some(Life { table, age })
-}
-
-// `pay AMOUNT ad[NAME]`, which ends the text: the amount
-fn pay_line(text: &[u8], name: &[u8]) -> Option<u64>
-    ensures none { IfNone result ((amount : List ℕ) → IsPayLine text.now name.now amount → ⊥) }
-    ensures some { IfSome result (λ found. (amount : List ℕ) × IsPayLine text.now name.now amount × (found ≡ number amount)) }
-{
-    let rest = after(text, b"pay ")?;
-    let (amount, rest) = number_before(rest, GREATEST_AMOUNT, b" ad[")?;
-    let rest = after(rest, name)?;
-    if amount == 0 {
-        return None;
+    match &pay.body {
+        Status::Life(0) => Some(pay.amount),
+        Status::Life(_) => None,
+        Status::Term(_) => None,
+        Status::Joint(_) => None,
+        Status::Last(_) => None,
+        Status::AtLeast(_, _) => None,
+        Status::Exactly(_, _) => None,
+        Status::After(_, _) => None,
     }
-    if rest != PAY_END {
-        return None;
-    }
-    Some(amount)
 }

@@ -6,7 +6,9 @@ ghost use Rattle.halo_top.specs.Command.{IsCommand};
 ghost use Rattle.halo_top.specs.Refusal.{line_of, status_of};
 ghost use Rattle.halo_top.specs.Verdict.{AnswersCommand, CallsFor, ReadsAll, shelved};
 
-use crate::command::Command;
+use crate::check::check;
+use crate::command::{Command, Task};
+use crate::input::{load_contract, load_tables};
 use crate::refusal::{Refusal, Stop};
 use crate::value::value;
 use halo_io::{Shelf, Sink, put_all};
@@ -26,13 +28,14 @@ const NO_MEMORY: u8 = 9;
 ///
 /// | Status | Comes |
 /// |---|---|
-/// | 0 | where the whole report was written |
+/// | 0 | where the whole text was written |
 /// | 1 | only where the sink's count of faults rose; a prefix of a text was taken |
 /// | 2 | where the words are no command that is built: `usage: ..` |
 /// | 3 | only where the shelf's count of faults of the file rose: `read fault tables`, `read fault contract` |
 /// | 4 | where the file is longer than its limit: `too long tables`, `too long contract` |
 /// | 5 | where the tables file has a fault, with the first faulty record: `tables record R KIND` |
-/// | 7 | where the contract file has another form than the one that is built: `contract NotBuilt` |
+/// | 6, 7, 8 | where the contract file has a fault, with the first faulty line: `contract line L KIND`; 6 for `Syntax`, 8 for `Magnitude`, 7 for the others |
+/// | 7 | where the contract has no fault, and is not one that `value` is built for: `contract NotBuilt` |
 /// | 9 | for want of memory; nothing was written, and the words were a command |
 ///
 /// The two decimals of each line of a report enclose the exact value of the contract that the files
@@ -55,7 +58,7 @@ pub fn run<S: Shelf, K: Sink>(alloc: Global, words: &[String], shelf: &mut S, ou
     let Some(command) = Command::read(words) else {
         return refuse(Refusal::Usage, out);
     };
-    match answer(alloc, command, shelf) {
+    match answer(alloc, &command, shelf) {
         Ok(text) => write(&text, FINE, out),
         Err(Stop::Refused(refusal)) => refuse(refusal, out),
         Err(Stop::Memory) => NO_MEMORY,
@@ -63,12 +66,15 @@ pub fn run<S: Shelf, K: Sink>(alloc: Global, words: &[String], shelf: &mut S, ou
 }
 
 // The text that a command writes.
-fn answer<S: Shelf>(alloc: Global, command: Command<'_>, shelf: &mut S) -> Result<Vec<u8>, Stop>
+fn answer<S: Shelf>(alloc: Global, command: &Command<'_>, shelf: &mut S) -> Result<Vec<u8>, Stop>
     ensures same { (n : List ℕ) → S.file shelf.new n ≡ S.file shelf.old n }
-    ensures answer { AnswersCommand (shelved (S.file shelf.old) (S.faults shelf.old) (S.faults shelf.new)) command.entry result }
+    ensures answer { AnswersCommand (shelved (S.file shelf.old) (S.faults shelf.old) (S.faults shelf.new)) command.now result }
 {
-    match command {
-        Command::Value { tables, contract } => value(alloc, tables, contract, shelf),
+    let tables = load_tables(alloc, shelf, command.tables)?;
+    let contract = load_contract(alloc, shelf, command.contract, &tables)?;
+    match command.task {
+        Task::Value => value(alloc, &tables, &contract),
+        Task::Check => check(alloc, &tables, &contract),
     }
 }
 

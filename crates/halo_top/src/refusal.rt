@@ -3,6 +3,7 @@ ghost use Rattle.std.specs.Prelude.{◌≡◌, ◌≤◌};
 ghost use Rattle.halo_top.specs.Input.{limit_of};
 ghost use Rattle.halo_top.specs.Refusal.{status_of};
 
+use halo_parse::{ContractFault, ContractKind};
 use halo_table::TableFault;
 
 /// A file that a command reads.
@@ -36,7 +37,9 @@ pub enum Refusal {
     TooLong(InputFile),
     /// This record of the tables file is the first faulty one.
     Table(TableFault),
-    /// The contract file has a form that is not valued yet.
+    /// This line of the contract file is the first faulty one.
+    Contract(ContractFault),
+    /// The contract has a form that is not valued yet.
     NotBuilt,
 }
 
@@ -59,6 +62,11 @@ impl Refusal {
             Refusal::Read(_) => 3,
             Refusal::TooLong(_) => 4,
             Refusal::Table(_) => 5,
+            Refusal::Contract(fault) => match fault.kind {
+                ContractKind::Syntax => 6,
+                ContractKind::Magnitude => 8,
+                _ => 7,
+            },
             Refusal::NotBuilt => 7,
         }
     }

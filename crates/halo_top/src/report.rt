@@ -1,12 +1,12 @@
 // The text that `value` writes.
 ghost use Rattle.std.specs.Prelude.{◌≡◌, ◌++◌, ◌^◌, IfOk, OnOk, codes};
 ghost use Rattle.halo_num.specs.Ends.{IsSized};
-ghost use Rattle.halo_top.specs.Decimal.{decimal_of};
+ghost use Rattle.halo_spell.specs.Decimal.{decimal_of};
 ghost use Rattle.halo_top.specs.Report.{line_with, report_of};
 
-use crate::decimal::write_decimal;
 use arrayvec::ArrayString;
 use halo_num::Nano;
+use halo_spell::decimal;
 use std::alloc::{AllocError, Global};
 
 /// The value report of a contract of one payment: a line for the payment and one for the total.
@@ -38,8 +38,8 @@ fn push_number(text: &mut Vec<u8>, units: i128) -> Result<(), AllocError>
     requires { IsSized units (10 ^ 36) }
     ensures { OnOk result (text.new.items ≡ text.old.items ++ (codes " " ++ decimal_of units)) }
 {
-    let mut decimal = ArrayString::new();
-    write_decimal(units, &mut decimal);
+    let mut number = ArrayString::new();
+    decimal(units, &mut number);
     text.extend_from_slice(b" ")?;
-    text.extend_from_slice(decimal.as_bytes())
+    text.extend_from_slice(number.as_bytes())
 }

@@ -5,6 +5,8 @@ use std::test::Fail;
 
 const TABLES: &[u8] = b"table,age,l,death\nm,60,4,2\nm,61,2,1\nm,62,1,1\n";
 
+const TWO_CAUSES: &[u8] = b"table,age,l,death,lapse\nw,60,4,1,1\nw,61,2,1,1\n";
+
 const CONTRACT: &[u8] = b"interest 1/1\nlife x m 60\npay 1 ad[x]\n";
 
 const REPORT: &[u8] = b"pay 1 1.312500000 1.312500000\ntotal 1.312500000 1.312500000\n";
@@ -13,6 +15,8 @@ const USAGE: &[u8] =
     b"usage: halo value T C, check T C, compile T C, explain T C, columns T NAME P/Q, sample N\n";
 
 const VALUE: &[&str] = &["value", "T", "C"];
+
+const CHECK: &[&str] = &["check", "T", "C"];
 
 const LONG: [u8; 65537] = [b'#'; 65537];
 
@@ -77,11 +81,37 @@ fn sink_of(alloc: Global, failing: u64) -> Result<MemSink, AllocError> {
 fn answers_for_words_and_files(rt: HostRuntime) -> Result<(), Fail> {
     let alloc = rt.alloc();
     // The words, the bytes of the two files, the status, and the text.
-    let rows: [(&[&str], &[u8], &[u8], u8, &[u8]); 8] = [
+    let rows: [(&[&str], &[u8], &[u8], u8, &[u8]); 12] = [
         (VALUE, TABLES, CONTRACT, 0, REPORT),
         (&["value", "T"], TABLES, CONTRACT, 2, USAGE),
-        (&[], TABLES, CONTRACT, 2, USAGE),
-        (&["check", "T", "C"], TABLES, CONTRACT, 2, USAGE),
+        (&["price", "T", "C"], TABLES, CONTRACT, 2, USAGE),
+        (VALUE, TABLES, &LONG, 4, b"too long contract\n"),
+        (
+            CHECK,
+            TABLES,
+            b"# an old form\ninterest 01/1\nlife x m 60\nlife y m 60\n\
+                life z m 60\npay 007 0|ad[((x):bar(y))]\n",
+            0,
+            b"interest 1/1\nlife x m 60\nlife y m 60\nlife z m 60\npay 7 ad[x:bar(y)]\n",
+        ),
+        (
+            CHECK,
+            TWO_CAUSES,
+            b"interest 2/50 010 1/25\r\nlife x w 060\r\nlife y w 60\r\n\
+                ties  even\r\npay 1 1|IA{lapse,death}[(x:y)]\r\npay 20 a[x|(y|x)]\r\n\
+                premium (x:<03>)\r\nreserve 01 y x\r\nreserve 1\r\n",
+            0,
+            b"interest 2/50 10 1/25\nlife x w 60\nlife y w 60\nties even\n\
+                pay 1 1|IA{death,lapse}[x:y]\npay 20 a[x|(y|x)]\npremium x:<3>\n\
+                reserve 1 x y\nreserve 1\n",
+        ),
+        (
+            VALUE,
+            TABLES,
+            b"\n#\ninterest  01/1\nlife x m 60\nties declared\npay 001\t0|ad[(x)]",
+            0,
+            REPORT,
+        ),
         (
             VALUE,
             TABLES,
@@ -92,18 +122,31 @@ fn answers_for_words_and_files(rt: HostRuntime) -> Result<(), Fail> {
         (
             VALUE,
             TABLES,
-            b"interest 1/1\nlife x m 63\npay 1 ad[x]\n",
+            b"interest 1/1\nlife x m 60\npay 1 ad[x]\nreserve 1 x\n",
             7,
             b"contract NotBuilt\n",
         ),
         (
+            CHECK,
+            TABLES,
+            b"interest 1/1\nlife x m 60\npay 1 A[x",
+            6,
+            b"contract line 3 Syntax\n",
+        ),
+        (
             VALUE,
             TABLES,
-            b"interest 1/1\nlife  x m 60\npay 1 ad[x]\n",
+            b"interest 1/1\nlife x m 63\npay 1 ad[x]\n",
             7,
-            b"contract NotBuilt\n",
+            b"contract line 2 NoAge\n",
         ),
-        (VALUE, TABLES, &LONG, 4, b"too long contract\n"),
+        (
+            VALUE,
+            TABLES,
+            b"interest 1/1\nlife x m 60\npay 10000000000 ad[x]\npay 1 ad[x]\n",
+            8,
+            b"contract line 4 Magnitude\n",
+        ),
     ];
     for (words, tables, contract, status, text) in rows {
         let words = words_of(alloc, words)?;
@@ -140,7 +183,7 @@ fn answers_for_tables_files(rt: HostRuntime) -> Result<(), Fail> {
             REPORT,
         ),
         (
-            &[b"table,age,l,death,lapse\nw,60,4,1,1\nw,61,2,1,1\n"],
+            &[TWO_CAUSES],
             b"interest 1/1\nlife x w 60\npay 1 ad[x]\n",
             0,
             b"pay 1 1.250000000 1.250000000\ntotal 1.250000000 1.250000000\n",

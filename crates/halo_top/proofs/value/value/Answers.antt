@@ -1,11 +1,17 @@
-use Rattle.halo_top.proofs.Files.{answers, in_order, values}
+use Rattle.std.proofs.Common.{inr, refl}
+use Rattle.halo_top.proofs.OneLifeContract.{amount_within, has_row, kept_somewhere, no_one_life, report_holds}
 use Rattle.halo_top.proofs.value.value.Goals as goal
 
-pub returns-clause-answer : goal.returns-clause-answer
-returns-clause-answer g c =
-    let loaded = c.in_ok-contract.ensures.contract in
-    let tables = c.in_ok-tables.ensures.tables in
-    let same = rw (c.in_ok-tables.ensures.same c.args.contract.now) at loaded.3 in
-    answers _ c.args.tables.now c.args.contract.now c.report.result c.in_ok-tables.tables c.in_ok-contract.contract
-    (in_order _ _ c.in_ok-tables.tables loaded.0 c.in_ok-contract.contract tables loaded.1 loaded.2 same)
-    (λ pay total encloses. values _ _ c.in_ok-tables.tables loaded.0 c.in_ok-contract.contract pay total tables loaded.2 same encloses) c.report.ensures.text c.report.ensures.memory
+pub returns-in_default-clause-err : goal.returns-in_default-clause-err
+returns-in_default-clause-err c = inr (refl, no_one_life c.args.contract.now c.in_default.ensures.none)
+
+pub report-requires-clause-life : goal.report-requires-clause-life
+report-requires-clause-life c =
+    has_row c.args.contract.now c.in-Some.one c.in-Some.ensures.some c.requires.1 c.requires.3 c.args.tables.now (kept_somewhere c.args.tables.now c.args.contract.now c.requires)
+
+pub report-requires-clause-amount : goal.report-requires-clause-amount
+report-requires-clause-amount c =
+    amount_within c.args.contract.now c.in-Some.one c.in-Some.ensures.some c.requires.1 c.requires.3 c.args.tables.now (kept_somewhere c.args.tables.now c.args.contract.now c.requires)
+
+pub returns-clause-ok : goal.returns-clause-ok
+returns-clause-ok c = report_holds c.args.contract.now c.in-Some.one c.in-Some.ensures.some c.args.tables.now c.report.result c.report.ensures.text

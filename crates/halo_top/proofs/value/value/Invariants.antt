@@ -1,4 +1,4 @@
 use Rattle.halo_top.proofs.value.value.Given as goal
 
 abbrev pub ghosts-report : goal.ghosts-report
-ghosts-report g a = record { name = a.blank.name; parts = a.blank.parts }
+ghosts-report a = record { name = a.blank.name; parts = a.blank.parts }
