@@ -4,3 +4,4 @@ pub mod StatusText
 pub mod Spellable
 pub mod ContractText
 pub mod LineText
+pub mod Laws
