@@ -5,18 +5,13 @@ use Rattle.std.proofs.Math.Pow.{pow-lt}
 use Rattle.std.proofs.lemmas.List.{get_or-map, length-map, take_more}
 use Rattle.std.specs.Int.Bits.{or_shifted_r}
 use Rattle.std.specs.List.{list_any}
-use Rattle.halo_parse.specs.Draft.{mask_of}
+use Rattle.halo_sums.specs.SetMasks.{mask_of}
+use Rattle.halo_sums.proofs.SetMasks.{mask_of-lt}
 
 -- a test passes for some of the images where the test of an image does
 pub list_any-map : {X Y : Type 0} (test : Y → Bool) (f : X → Y) (xs : List X) → list_any (λ x. test (f x)) xs ≡ list_any test (map f xs)
 list_any-map test f [] = refl
 list_any-map test f (x ∷ xs) = ap (λ b. test (f x) || b) (list_any-map test f xs)
-
--- a mask has no bit behind its tests
-pub mask_of-lt : (bs : List Bool) → mask_of bs < 2 ^ length bs
-mask_of-lt [] = omega arith
-mask_of-lt (true ∷ bs) = omega (arith, pow-suc 2 (length bs), mask_of-lt bs)
-mask_of-lt (false ∷ bs) = omega (arith, pow-suc 2 (length bs), mask_of-lt bs)
 
 -- one test more at the end
 mask_of-push : (bs : List Bool) (b : Bool) → mask_of (bs ++ b ∷ []) ≡ mask_of bs + cond b (2 ^ length bs) 0

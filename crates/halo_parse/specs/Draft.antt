@@ -1,6 +1,7 @@
 -- A contract as plain data, and what a line adds to the lines before it.
 use Rattle.std.specs.Prelude.{ℕ, ◌+◌, ◌*◌, List, [], ◌∷◌, ◌++◌, Bool, Option, None, Some, bytes_eq, cond, map, sum_by}
 use Rattle.std.specs.List.{list_any, position_or_len}
+use Rattle.halo_sums.specs.SetMasks.{mask_of}
 use Rattle.halo_text.specs.Number.{number}
 use Rattle.halo_interest.specs.declared.rate.Rate.{Rate}
 use Rattle.halo_status.specs.Pay.{PlainPay}
@@ -45,11 +46,6 @@ is_among names name = list_any (λ other. bytes_eq other name) names
 -- the place of a name among some names, from 0, and how many there are where it is none of them
 abbrev pub place_of : List (List ℕ) → List ℕ → ℕ
 place_of names name = position_or_len (λ other. bytes_eq other name) names
-
--- a set as the bits of a number: element i as bit i
-abbrev pub mask_of : List Bool → ℕ
-mask_of [] = 0
-mask_of (b ∷ bs) = cond b 1 0 + 2 * mask_of bs
 
 -- which of all names are among some names, as bits
 abbrev pub mask_of_names : List (List ℕ) → List (List ℕ) → ℕ

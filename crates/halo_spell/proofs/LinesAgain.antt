@@ -8,7 +8,6 @@ use Rattle.std.proofs.lemmas.List.Elements.{All-contains, All-contains_itself, A
 use Rattle.halo_text.specs.Name.{IsName}
 use Rattle.halo_text.specs.Number.{IsNumber, number}
 use Rattle.halo_interest.specs.declared.rate.Rate.{Rate}
-use Rattle.halo_status.specs.Nodes.{nodes}
 use Rattle.halo_status.specs.Pay.{PlainPay}
 use Rattle.halo_status.specs.Tree as status
 use Rattle.halo_status.specs.Tree.{Tree}
@@ -24,7 +23,7 @@ use Rattle.halo_symbol.specs.Tree.{Body}
 use Rattle.halo_lex.specs.Lexeme.{IsLongName}
 use Rattle.halo_table.specs.DecrementTable.{DecrementTable, TableFile, empty_table, last_age_of, name_of, names_of}
 use Rattle.halo_table.specs.Sound.{IsSound}
-use Rattle.halo_parse.specs.Checks.{AreDifferent, IsSome, IsWithinLimits, OfMembers, Passes, PassesAll, YearsRise, year_at}
+use Rattle.halo_parse.specs.Checks.{IsSome, IsWithinLimits, OfMembers, PassesAll, YearsRise, year_at}
 use Rattle.halo_parse.specs.Draft.{Draft, is_among, life_names, mask_of_names, pay_written, place_of, rate_from, with_line}
 use Rattle.halo_parse.specs.Forms.{CameBefore}
 use Rattle.halo_parse.specs.Limits.{IsRateWithin, IsShortName, any_life}
@@ -32,16 +31,14 @@ use Rattle.halo_parse.specs.Line.{Line, LaterRate, interest, life, pay, premium,
 use Rattle.halo_parse.specs.LineReading.{nest_line}
 use Rattle.halo_parse.specs.ProperLine.{IsProperLine, IsProperRate}
 use Rattle.halo_parse.specs.declared.contract.LifeLine.{LifeLine}
-use Rattle.halo_parse.specs.declared.contract.ReserveLine.{ReserveLine}
-use Rattle.halo_parse.specs.declared.fault.ContractKind.{ContractKind}
 use Rattle.halo_parse.specs.declared.fault.ContractKind.TheVariants as kind
 use Rattle.halo_parse.specs.declared.form.Form.{Form}
 use Rattle.halo_parse.specs.declared.form.Form.TheVariants as form
 use Rattle.halo_parse.specs.declared.ties.Ties.{Ties}
 use Rattle.halo_parse.specs.declared.ties.Ties.TheVariants as rule
-use Rattle.halo_parse.proofs.MasksOfTests.{mask_of-lt}
+use Rattle.halo_sums.proofs.SetMasks.{mask_of-lt}
 use Rattle.halo_parse.proofs.Nodes.{nodes-tree_of_body}
-use Rattle.halo_spell.specs.Canonical.{canonical_body, canonical_mark, canonical_symbol, name_at, names_in}
+use Rattle.halo_spell.specs.Canonical.{canonical_body, canonical_mark, names_in}
 use Rattle.halo_spell.specs.ContractText.{canonical_rate, life_line, pay_line, premium_line, reserve_line}
 use Rattle.halo_spell.specs.Laws.{brief_rule, briefly}
 use Rattle.halo_spell.proofs.GoodSymbols.{different_causes, falls_from_some, good_body, known_causes, proper_symbol, symbol_within}

@@ -1,17 +1,17 @@
 -- Names and their places tell each other, and so do sets of names and their masks.
-use Rattle.std.proofs.Common.{◌≡◌, ◌≢◌, ◌⊎◌, ℕ, zero, suc, ◌+◌, ◌*◌, ◌/◌, ◌%◌, ◌^◌, ◌<◌, ◌≤◌, List, [], ◌∷◌, Bool, true, false, cond, ◌||◌, bytes_eq, nat_eq, inl, inr, length, get_or, map, ap, ap₂, sym, ◌∙◌, refl, subst, arith}
+use Rattle.std.proofs.Common.{◌≡◌, ◌≢◌, ℕ, zero, suc, ◌^◌, ◌<◌, List, [], ◌∷◌, Bool, true, false, cond, ◌||◌, bytes_eq, inl, inr, length, map, ap, ap₂, sym, ◌∙◌, refl, subst, arith}
 use Rattle.std.specs.Prelude.{All, Contains, ⊤}
-use Rattle.std.specs.List.{filter, list_any}
-use Rattle.std.proofs.Math.Nat.{pow-suc}
+use Rattle.std.specs.List.{filter}
 use Rattle.std.proofs.lemmas.List.{length-map}
 use Rattle.std.proofs.lemmas.List.Elements.{All-nil, All-cons, All-head, All-tail, All-get_or, All-from_get_or, All-weaker, filter_passes}
 use Rattle.std.proofs.lemmas.List.Sums.{passes_at_first}
 use Rattle.std.proofs.lemmas.Slice.Eq.{bytes_eq-Decides}
 use Rattle.std.proofs.lemmas.Bool.{cases_lt}
-use Rattle.std.proofs.lemmas.Bool.Decides.{nat_tests}
 use Rattle.halo_sums.specs.Masks.{bits}
 use Rattle.halo_parse.specs.Checks.{AreDifferent}
-use Rattle.halo_parse.specs.Draft.{is_among, mask_of, mask_of_names, place_of}
+use Rattle.halo_sums.specs.SetMasks.{mask_of}
+use Rattle.halo_sums.proofs.SetMasks.{bits-mask_of, length-bits, mask_of-bits}
+use Rattle.halo_parse.specs.Draft.{is_among, mask_of_names, place_of}
 use Rattle.halo_parse.proofs.AmongNames.{among-Contains}
 use Rattle.halo_parse.proofs.LivesPlaced.{place_of-lt}
 use Rattle.halo_parse.proofs.Places.{place_is}
@@ -30,30 +30,6 @@ place_back names i different below = sym (place_is names (name_at names i) i bel
 -- and the name at the place of a name is that name
 pub name_back : (names : List (List ℕ)) (name : List ℕ) → Contains names name → name_at names (place_of names name) ≡ name
 name_back names name among = (bytes_eq-Decides _ name).0 (passes_at_first (λ other. bytes_eq other name) names [] (place_of-lt names name among))
-
--- the value of the lowest bit
-lowest : (mask : ℕ) → cond (nat_eq (mask % 2) 1) 1 0 ≡ mask % 2
-lowest mask = grind (arith, nat_tests)
-
--- the bits of a mask make the mask again
-pub mask_of-bits : (n mask : ℕ) → mask < 2 ^ n → mask_of (bits n mask) ≡ mask
-mask_of-bits zero mask below = omega arith
-mask_of-bits (suc n) mask below =
-    let half = pow-suc 2 n in
-    let rest = mask_of-bits n (mask / 2) (omega arith) in
-    rw (lowest mask, rest) (omega arith)
-
--- and the bits of the mask of some tests are the tests
-pub bits-mask_of : (bs : List Bool) → bits (length bs) (mask_of bs) ≡ bs
-bits-mask_of [] = refl
-bits-mask_of (true ∷ bs) =
-    let odd : (1 + 2 * mask_of bs) % 2 ≡ 1 = omega arith in
-    let half : (1 + 2 * mask_of bs) / 2 ≡ mask_of bs = omega arith in
-    rw (odd, half, bits-mask_of bs)
-bits-mask_of (false ∷ bs) =
-    let even : (0 + 2 * mask_of bs) % 2 ≡ 0 = omega arith in
-    let half : (0 + 2 * mask_of bs) / 2 ≡ mask_of bs = omega arith in
-    rw (even, half, bits-mask_of bs)
 
 -- what a test chooses is what passes it
 chosen-map : {X : Type 0} (test : X → Bool) (xs : List X) → chosen xs (map test xs) ≡ filter test xs
@@ -131,10 +107,6 @@ among_chosen (name ∷ names) (true ∷ choices) same apart =
     (map-same (is_among (name ∷ chosen names choices)) (is_among (chosen names choices)) names (All-weaker (λ o. name ≢ o) _ others names apart.0) ∙ among_chosen names choices (omega arith) apart.1)
 among_chosen (name ∷ names) (false ∷ choices) same apart =
     ap₂ (λ b bs. b ∷ bs) (not_among name (chosen names choices) (All-chosen (λ o. name ≢ o) names choices apart.0)) (among_chosen names choices (omega arith) apart.1)
-
-length-bits : (n mask : ℕ) → length (bits n mask) ≡ n
-length-bits zero mask = refl
-length-bits (suc n) mask = ap suc (length-bits n (mask / 2))
 
 -- the names of a set have the mask of the set
 pub mask_back : (names : List (List ℕ)) (mask : ℕ) → AreDifferent names → mask < 2 ^ length names → mask_of_names names (names_in names mask) ≡ mask

@@ -1,21 +1,20 @@
 -- What a line adds that passes all checks can be written again.
-use Rattle.std.proofs.Common.{◌≡◌, ◌≢◌, ℕ, suc, ◌+◌, ◌≤◌, ◌<◌, ◌^◌, List, [], ◌∷◌, Option, Some, None, length, map, ap, sym, ◌∙◌, refl, arith, inl, inr}
+use Rattle.std.proofs.Common.{◌≡◌, ℕ, ◌≤◌, ◌<◌, ◌^◌, List, Option, Some, None, length, map, ap, refl, arith, inl, inr}
 use Rattle.std.specs.Prelude.{All, IfSome, true}
 use Rattle.std.specs.Option.{option_map}
 use Rattle.std.proofs.lemmas.List.{length-map}
 use Rattle.std.proofs.lemmas.List.Elements.{All-cons}
 use Rattle.halo_status.specs.Naming.{NamesLivesBelow}
 use Rattle.halo_status.specs.Nodes.{AtEachNode, HasShortList}
-use Rattle.halo_status.specs.Pay.{PlainPay}
 use Rattle.halo_status.specs.Tree as status
 use Rattle.halo_status.specs.Tree.{Tree}
-use Rattle.halo_status.specs.ValidPay.{HasLength, HasRank, IsValidPay}
+use Rattle.halo_status.specs.ValidPay.{HasLength, HasRank}
 use Rattle.halo_status.specs.Exists.{exists}
 use Rattle.halo_status.specs.View.{is_on}
 use Rattle.halo_status.specs.declared.view.View.TheVariants.{Due}
 use Rattle.halo_model.specs.Premium.{all_lives, premium_pay}
 use Rattle.halo_symbol.specs.Nesting.{nest_body}
-use Rattle.halo_symbol.specs.Proper.{AreProperNames, IsPlainName, MayHaveMark}
+use Rattle.halo_symbol.specs.Proper.{AreProperNames, IsPlainName}
 use Rattle.halo_symbol.specs.StatusOf.{tree_of_body, tree_of_content, trees_of_members}
 use Rattle.halo_symbol.specs.Symbol as written
 use Rattle.halo_symbol.specs.Symbol.{Names, Symbol}
@@ -23,13 +22,12 @@ use Rattle.halo_symbol.specs.Tree.{Body, list, reversion}
 use Rattle.halo_table.specs.DecrementTable.{TableFile}
 use Rattle.halo_parse.specs.Checks.{AreDifferent, PassesAll, status_tree}
 use Rattle.halo_parse.specs.ContractLaws.{IsValidAmong}
-use Rattle.halo_parse.specs.Draft.{Draft, all_names, causes_of, is_among, life_names, mark_of, mask_of_names, pay_written, place_of}
+use Rattle.halo_parse.specs.Draft.{Draft, all_names, causes_of, is_among, life_names, mark_of, pay_written, place_of}
 use Rattle.halo_parse.specs.Limits.{IsShortName}
-use Rattle.halo_parse.specs.Line.{Line, pay, premium}
+use Rattle.halo_parse.specs.Line.{pay, premium}
 use Rattle.halo_parse.specs.declared.contract.LifeLine.{LifeLine}
 use Rattle.halo_parse.specs.ProperLine.{IsProperLine}
-use Rattle.halo_parse.proofs.MasksOfTests.{mask_of-lt}
-use Rattle.halo_parse.proofs.ShortLists.{member_count-trees}
+use Rattle.halo_sums.proofs.SetMasks.{mask_of-lt}
 use Rattle.halo_parse.proofs.ValidPays.{pays_are_valid, premiums_are_valid}
 use Rattle.halo_spell.specs.Canonical.{canonical_body, canonical_mark, name_at, names_in}
 use Rattle.halo_spell.proofs.FitTrees.{IsFit, fit, fit_in}

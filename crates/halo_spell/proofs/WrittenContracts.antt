@@ -16,7 +16,7 @@ use Rattle.halo_parse.specs.Line.{Line, interest, life, ties, pay, premium, rese
 use Rattle.halo_parse.specs.declared.contract.LifeLine.{LifeLine}
 use Rattle.halo_parse.specs.declared.contract.ReserveLine.{ReserveLine}
 use Rattle.halo_parse.proofs.Kept.{kept_at_first, kept_by_lines}
-use Rattle.halo_parse.proofs.MasksOfTests.{mask_of-lt}
+use Rattle.halo_sums.proofs.SetMasks.{mask_of-lt}
 use Rattle.halo_parse.proofs.ValidContracts.{contracts_are_valid}
 use Rattle.halo_spell.specs.Spellable.{ContractsAreSpellable, IsSpellablePay}
 

@@ -6,3 +6,5 @@ pub mod Sets
 pub mod Coefficients
 pub mod Masks
 pub mod Bounds
+pub mod SetMasks
+pub mod Choices

@@ -3,3 +3,5 @@ pub mod Sets
 pub mod Masks
 pub mod Coefficients
 pub mod Laws
+pub mod SetMasks
+pub mod Choices
