@@ -1,4 +1,4 @@
-ghost use Rattle.std.specs.Prelude.{◌≡◌, ℕ, ◌+◌, ◌-◌, ◌*◌, ◌/◌, ◌^◌, ◌≤◌, ℤ, pos, ◌+ℤ◌, ◌-ℤ◌, ◌*ℤ◌, ◌≤ℤ◌, neg_ℤ};
+ghost use Rattle.std.specs.Prelude.{◌≡◌, ℕ, ◌+◌, ◌-◌, ◌*◌, ◌/◌, ◌^◌, ◌<◌, ◌≤◌, ℤ, pos, ◌+ℤ◌, ◌-ℤ◌, ◌*ℤ◌, ◌≤ℤ◌, neg_ℤ};
 ghost use Rattle.std.specs.Int.{int_min, int_max};
 ghost use Rattle.halo_num.specs.Ends.{fine, printed, printed_ceiling, IsWithin, IsSized, HasWidth};
 ghost use Rattle.halo_num.specs.Rounding.{IsFloor, IsCeiling};
@@ -204,6 +204,8 @@ impl Ival {
             Encloses result (pos (s * x * f + (d - s) * y * e)) (d * e * f) }
         ensures within { IsWithin result (pos 0) (pos fine) }
         ensures narrow { (u w : ℕ) → HasWidth p u → HasWidth a w → HasWidth b w → HasWidth result (u + w + 1) }
+        ensures chance { (s d x y e u w : ℕ) → 0 < e → EnclosesChance s d u p → EnclosesChance x e w a →
+            EnclosesChance y e w b → EnclosesChance (s * x + (d - s) * y) (d * e) (u + w + 1) result }
         ensures cost { steps.new ≡ steps.old + 2 }
     {
         steps.tick();

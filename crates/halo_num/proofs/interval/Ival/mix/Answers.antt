@@ -1,6 +1,7 @@
 use Rattle.std.proofs.Common.{rules, arith}
 use Rattle.std.proofs.lemmas.Int.{to_z-of_z}
 use Rattle.halo_num.proofs.Blends.{encloses_mix, mix_ordered}
+use Rattle.halo_num.proofs.Chances.{chance_mix}
 use Rattle.halo_num.proofs.Rounded.{floor_at}
 use Rattle.halo_num.proofs.Extremes.{least_at_ends, greatest_at_ends}
 use Rattle.halo_num.proofs.Spreads.{width_mix}
@@ -30,3 +31,7 @@ returns-clause-greatest g c =
 pub returns-clause-narrow : goal.returns-clause-narrow
 returns-clause-narrow g c = λ u w p q r.
     width_mix c.args.p c.args.a c.args.b _ u w c.requires.p_in c.requires.a_in c.requires.b_in c.ends-p_low.ensures.order c.ends-a_low.ensures.order c.ends-b_low.ensures.order (returns-clause-low g c) (returns-clause-high g c) p q r
+
+pub returns-clause-chance : goal.returns-clause-chance
+returns-clause-chance g c = λ s d x y e u w positive p q r.
+    chance_mix s d x y e u w _ positive (returns-clause-encloses g c s x y d e e p.encloses q.encloses r.encloses) (returns-clause-narrow g c u w p.narrow q.narrow r.narrow) (search rules)
