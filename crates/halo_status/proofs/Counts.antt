@@ -9,13 +9,13 @@ use Rattle.halo_status.specs.Tree.{joint, last}
 use Rattle.halo_status.proofs.Walk.{left_at}
 
 -- no more are true than there are
-count_true-le-length : (bs : List Bool) → count_true bs ≤ length bs
+pub count_true-le-length : (bs : List Bool) → count_true bs ≤ length bs
 count_true-le-length [] = omega arith
 count_true-le-length (true ∷ bs) = omega (arith, count_true-le-length bs)
 count_true-le-length (false ∷ bs) = omega (arith, count_true-le-length bs)
 
 -- each member either exists or does not
-length-each_exists : (alive on : ℕ → Bool) (ss : List Status) → length (each_exists alive on (trees_in ss)) ≡ length ss
+pub length-each_exists : (alive on : ℕ → Bool) (ss : List Status) → length (each_exists alive on (trees_in ss)) ≡ length ss
 length-each_exists alive on [] = refl
 length-each_exists alive on (s ∷ ss) = ap suc (length-each_exists alive on ss)
 

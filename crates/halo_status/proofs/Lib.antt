@@ -1,8 +1,10 @@
 pub mod Counts
 pub mod Empty
+pub mod InBlock
 pub mod Lasting
 pub mod Lists
 pub mod LivesNamed
 pub mod Masks
 pub mod Shapes
 pub mod Walk
+pub mod Words

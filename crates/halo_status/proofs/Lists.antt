@@ -27,7 +27,7 @@ pub nodes-list : (now : Status) (ms : List Status) → HasMembers now ms → nod
 nodes-list now ms = at_list (λ s. nodes s ≡ 1 + nodes_in (trees_in ms)) now ms refl refl (λ r. refl) (λ r. refl)
 
 -- the trees of a list are as many as the list is long
-member_count-trees_in : (ms : List Status) → member_count (trees_in ms) ≡ length ms
+pub member_count-trees_in : (ms : List Status) → member_count (trees_in ms) ≡ length ms
 member_count-trees_in [] = refl
 member_count-trees_in (s ∷ ms) = omega (arith, member_count-trees_in ms)
 

@@ -1,9 +1,11 @@
+pub mod Blocks
 pub mod Bounds
 pub mod Exists
 pub mod Laws
 pub mod Naming
 pub mod Nodes
 pub mod Pay
+pub mod ReadOnce
 pub mod StatusTree
 pub mod Tree
 pub mod ValidPay

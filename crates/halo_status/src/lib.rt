@@ -5,6 +5,7 @@
 //! annuity on a status pays. Lives are numbered from 0, times and terms count whole years.
 #![tactic(auto)]
 
+mod blocks;
 pub mod laws;
 mod mask;
 mod memory;
@@ -15,6 +16,7 @@ mod status;
 mod tests;
 mod view;
 
+pub use blocks::exactly_in_block;
 pub use memory::Memory;
 pub use pay::{Kind, Mark, Pay, Vary};
 pub use short_list::{MOST_ITEMS, ShortList};

@@ -1,8 +1,9 @@
-ghost use Rattle.std.specs.Prelude.{◌≡◌, ℕ, ◌^◌, ◌<◌, ◌↔◌, IsTrue};
+ghost use Rattle.std.specs.Prelude.{◌≡◌, ℕ, ◌^◌, ◌<◌, ◌↔◌, IsTrue, min};
 ghost use Rattle.halo_status.specs.Exists.{exists, each_exists, count_true};
 ghost use Rattle.halo_sums.specs.Masks.{has_bit};
 ghost use Rattle.halo_status.specs.Naming.{names_life, any_names_life, names_term, any_names_term, NamesLivesBelow, AnyNamesLivesBelow};
 ghost use Rattle.halo_status.specs.Nodes.{nodes, nodes_in, AtEachNodeIn, IsLasting, NeverReturns, HasShortList, HasShortLists};
+ghost use Rattle.halo_status.specs.ReadOnce.{standings, standings_in, IsReadOnce};
 ghost use Rattle.halo_status.specs.StatusTree.{tree_of, trees_in};
 ghost use Rattle.halo_status.specs.View.{is_on};
 
@@ -11,6 +12,9 @@ use crate::{ShortList, View};
 
 /// The members of a status, seen as the list of them: 1 to 16 statuses.
 pub type Members = ShortList<Status>;
+
+// How many numbers a life can have: those of a byte.
+const LIFE_NUMBERS: u16 = 256;
 
 /// A status: what exists while certain lives are there and certain terms are on.
 ///
@@ -129,6 +133,36 @@ impl Status {
             Status::Exactly(..) | Status::After(..) => false,
         }
     }
+
+    /// Whether it is read once: whether no life stands in it twice.
+    pub fn read_once(&self) -> bool
+        ensures { IsTrue result ↔ IsReadOnce (tree_of self.now) }
+    {
+        for i in 0..LIFE_NUMBERS {
+            if self.standings(i as u8) > 1 {
+                return false;
+            }
+        }
+        true
+    }
+
+    // How often life i stands in it, counted up to 255. Lives have numbers up to 255.
+    #[cycle(standing)]
+    #[tactic(auto, using(crate::proofs::Shapes::shapes))]
+    fn standings(&self, i: u8) -> u8
+        ensures count { result ≡ min 255 (standings i (tree_of self.now)) }
+        ensures numbers { (j : ℕ) → 255 < j → standings j (tree_of self.now) ≡ 0 }
+    {
+        match self {
+            Status::Life(life) => u8::from(*life == i),
+            Status::Term(_) => 0,
+            Status::Joint(members)
+            | Status::Last(members)
+            | Status::AtLeast(_, members)
+            | Status::Exactly(_, members) => standings_of(members.as_slice(), i),
+            Status::After(first, then) => first.standings(i).saturating_add(then.standings(i)),
+        }
+    }
 }
 
 // How many of some members exist.
@@ -196,4 +230,17 @@ fn are_lasting(members: &[Status]) -> bool
         }
     }
     true
+}
+
+// How often life i stands in some members, counted up to 255.
+#[cycle(standing)]
+fn standings_of(members: &[Status], i: u8) -> u8
+    ensures count { result ≡ min 255 (standings_in i (trees_in members.now)) }
+    ensures numbers { (j : ℕ) → 255 < j → standings_in j (trees_in members.now) ≡ 0 }
+{
+    let mut count = 0u8;
+    for member in members {
+        count = count.saturating_add(member.standings(i));
+    }
+    count
 }

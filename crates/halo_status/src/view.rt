@@ -11,8 +11,8 @@ pub enum View {
 }
 
 impl View {
-    // Whether a term of `n` years is on at time `t`.
-    pub(crate) fn is_on(self, t: u16, n: u16) -> bool
+    /// Whether a term of `n` years is on at time `t`.
+    pub fn is_on(self, t: u16, n: u16) -> bool
         ensures { result ≡ is_on self t n }
     {
         match self {
