@@ -30,7 +30,7 @@ module _ (alive other_alive on other_on : ℕ → Bool) where
         ap (λ b. b && not (exists alive on s)) (agree t (λ i e. lives i (or-right (names_life i s) _ e)) (λ n e. terms n (or-right (names_term n s) _ e)))
         ∙ ap (λ b. exists other_alive other_on t && not b) (agree s (λ i e. lives i (or-left _ _ e)) (λ n e. terms n (or-left _ _ e)))
 
-    each-agree : (ms : Trees) → ((i : ℕ) → any_names_life i ms ≡ true → alive i ≡ other_alive i) → ((n : ℕ) → any_names_term n ms ≡ true → on n ≡ other_on n) → each_exists alive on ms ≡ each_exists other_alive other_on ms
+    pub each-agree : (ms : Trees) → ((i : ℕ) → any_names_life i ms ≡ true → alive i ≡ other_alive i) → ((n : ℕ) → any_names_term n ms ≡ true → on n ≡ other_on n) → each_exists alive on ms ≡ each_exists other_alive other_on ms
     each-agree none lives terms = refl
     each-agree (more s ms) lives terms =
         ap (λ b. b ∷ each_exists alive on ms) (agree s (λ i e. lives i (or-left _ _ e)) (λ n e. terms n (or-left _ _ e)))

@@ -30,7 +30,7 @@ module _ (b : Basis) (rule : AreLives b.lives) (pay : PlainPay) (plain : pay.mar
   existence-is : (t : ℕ) (o : Outcome) → indicator (exists (lives_at t o) (is_on view t) pay.body) ≡ existence pay t (there_at (λ i. t) o)
   existence-is t o = rw (plain, sees) (ap (λ alive. indicator (exists alive (is_on view t) pay.body)) (fun_ext (λ i. sym (in_set-there_at (λ i. t) o i))))
 
-  exists-weight : (t : ℕ) → T ≤ t → expected T S b.lives (λ o. indicator (exists (lives_at t o) (is_on view t) pay.body)) ≡ existing_weight b pay T S t
+  pub exists-weight : (t : ℕ) → T ≤ t → expected T S b.lives (λ o. indicator (exists (lives_at t o) (is_on view t) pay.body)) ≡ existing_weight b pay T S t
   unfolding form
   exists-weight t started = int_sum_over-ext (outcomes T S b.lives) _ _ (λ o. ap (λ z. pos (weight b.lives o) *ℤ z) (existence-is t o))
       ∙ expected-by-coefficients (λ i. t) T (λ i. started) S b.lives rule (existence pay t)

@@ -21,7 +21,7 @@ use Rattle.halo_model.specs.Part.{due_part, existing_weight}
 use Rattle.halo_model.proofs.Annuities.{due-by-parts}
 
 -- one life has one order
-one-order : (b : Basis) (x : PlainLife) → b.lives ≡ x ∷ [] → length (taken b) ≡ 1
+pub one-order : (b : Basis) (x : PlainLife) → b.lives ≡ x ∷ [] → length (taken b) ≡ 1
 one-order b x one = rw one (each b.ties)
   where
     each : (ties : Ties) → length (orders_taken ties 1) ≡ 1
@@ -44,7 +44,7 @@ due-part b x one pay plain body t = rw (from-start t, and-true (nat_le pay.defer
     each true = sym (pos_mul (payment pay (t - pay.defer) * discounted b 0 t) (x.survivors t))
     each false = refl
 
-denominator-of-one : (b : Basis) (x : PlainLife) → b.lives ≡ x ∷ [] → denominator b 0 all_lives ≡ x.survivors 0 * accumulated b 0
+pub denominator-of-one : (b : Basis) (x : PlainLife) → b.lives ≡ x ∷ [] → denominator b 0 all_lives ≡ x.survivors 0 * accumulated b 0
 unfolding denominator
 denominator-of-one b x one = rw (one-order b x one, one) (omega arith)
 

@@ -98,7 +98,7 @@ module _ (alive still_alive on still_on : ℕ → Bool) where
   length-each_exists (more s ms) = omega (arith, length-each_exists ms)
 
   module _ (fewer : IsSubset still_alive alive) (ended : IsSubset still_on on) where
-    member-lasts : (ms : Trees) → AtEachNodeIn NeverReturns ms → (p : ℕ) → get_or (each_exists still_alive still_on ms) p false ≡ true → get_or (each_exists alive on ms) p false ≡ true
+    pub member-lasts : (ms : Trees) → AtEachNodeIn NeverReturns ms → (p : ℕ) → get_or (each_exists still_alive still_on ms) p false ≡ true → get_or (each_exists alive on ms) p false ≡ true
     member-lasts none lasting p e = e
     member-lasts (more s ms) lasting zero e = lasts still_alive alive still_on on fewer ended s lasting.0 e
     member-lasts (more s ms) lasting (suc p) e = member-lasts ms lasting.1 p e

@@ -11,6 +11,7 @@ use Rattle.halo_table.specs.Sound.{AreSoundRows, IsSound, IsSoundTable}
 use Rattle.halo_table.specs.declared.lives.Life.{Life}
 use Rattle.halo_model.specs.Life.{AreLives, IsLife}
 use Rattle.halo_model.specs.FromTables.{HasRow, life_of, lives_of}
+use Rattle.halo_model.specs.SetLaws.{StopLeaving}
 
 sum_over-get_or : (ns : List ℕ) → sum_over (numbers_from 0 (length ns)) (λ j. get_or ns j 0) ≡ sum ns
 sum_over-get_or [] = refl
@@ -63,3 +64,19 @@ lives_of-AreLives file sound [] have_rows = tt
 lives_of-AreLives file sound (life ∷ lives) have_rows =
     let row = All-head (λ life. HasRow file life.table life.age) life lives have_rows in
     (life_of-IsLife file sound life.table life.age row.table_in row.from_first, lives_of-AreLives file sound lives (All-tail (λ life. HasRow file life.table life.age) life lives have_rows))
+
+-- nobody leaves past the last row
+pub life_of-stops : (file : TableFile) → IsSound file → (table age : ℕ) → table < length file.tables → first_age_of file table ≤ age → (k j : ℕ) → (life_of file table age).years_left ≤ k → (life_of file table age).leavers k j ≡ 0
+life_of-stops file sound table age within from k j past = rw (get_or_past t.rows (age + k - t.first_age) empty_row (omega (arith, some, past))) refl
+  where
+    t : DecrementTable
+    t = table_of file table
+
+    some : 0 < length t.rows
+    some = some-rows (length file.causes) t.rows (All-get_or (IsSoundTable (length file.causes)) file.tables table empty_table within sound.tables).rows
+
+pub lives_of-StopLeaving : (file : TableFile) → IsSound file → (lives : List Life) → All (λ life. HasRow file life.table life.age) lives → StopLeaving (lives_of file lives)
+lives_of-StopLeaving file sound [] have_rows = tt
+lives_of-StopLeaving file sound (life ∷ lives) have_rows =
+    let row = All-head (λ life. HasRow file life.table life.age) life lives have_rows in
+    (life_of-stops file sound life.table life.age row.table_in row.from_first, lives_of-StopLeaving file sound lives (All-tail (λ life. HasRow file life.table life.age) life lives have_rows))

@@ -21,11 +21,11 @@ use Rattle.halo_model.specs.Part.{end_part, leaving_part, paid_for_year, terms_o
 use Rattle.halo_model.specs.PartLaws.{EndBy, InsuranceByParts}
 use Rattle.halo_model.proofs.Expected.{Comes, Comes-length, IsWay, expected-add, expected-paid, expected-pos, expected-sum, expected-where}
 
-abbrev ExitBefore : ℕ → Option Exit → Type 0
+abbrev pub ExitBefore : ℕ → Option Exit → Type 0
 ExitBefore time None = Unit {0}
 ExitBefore time (Some x) = x.year < time
 
-exit-before : (time T : ℕ) (S : ℕ → Bool) (lives : List PlainLife) → EndBy time lives → (o : Outcome) → Comes T S lives o → (a : ℕ) → ExitBefore time (get_or o a None)
+pub exit-before : (time T : ℕ) (S : ℕ → Bool) (lives : List PlainLife) → EndBy time lives → (o : Outcome) → Comes T S lives o → (a : ℕ) → ExitBefore time (get_or o a None)
 exit-before time T S [] h [] comes a = tt
 exit-before time T S [] h (way ∷ o) comes a = absurd comes
 exit-before time T S (x ∷ lives) h [] comes a = absurd comes
@@ -37,12 +37,12 @@ exit-before time T S (x ∷ lives) h (way ∷ o) comes zero = first way comes.0
 exit-before time T S (x ∷ lives) h (way ∷ o) comes (suc a) = exit-before time T (after_first S) lives h.1 o comes.1 a
 
 -- what an event function gives for a life's exit, nothing where it has none
-abbrev at_exit : (Event → ℕ) → ℕ → Option Exit → ℕ
+abbrev pub at_exit : (Event → ℕ) → ℕ → Option Exit → ℕ
 at_exit f a None = 0
 at_exit f a (Some x) = f (leaves a x)
 
 -- a sum over the leavings, life by life
-sum_over-leavings : (f : Event → ℕ) (i : ℕ) (o : Outcome) → sum_over (leavings i o) f ≡ sum_over (numbers_from 0 (length o)) (λ a. at_exit f (i + a) (get_or o a None))
+pub sum_over-leavings : (f : Event → ℕ) (i : ℕ) (o : Outcome) → sum_over (leavings i o) f ≡ sum_over (numbers_from 0 (length o)) (λ a. at_exit f (i + a) (get_or o a None))
 sum_over-leavings f i [] = refl
 sum_over-leavings f i (way ∷ o) = first way
     ∙ ap (λ n. at_exit f i way + n) (sum_over-leavings f (suc i) o ∙ sum_over-ext (numbers_from 0 (length o)) _ _ (λ a. later a) ∙ sym (sum_over-numbers_next (length o) 0 (λ a. at_exit f (i + a) (get_or (way ∷ o) a None))))
@@ -59,7 +59,7 @@ sum_over-leavings f i (way ∷ o) = first way
     first (Some x) = refl
 
 -- a payment for one year, as a sum over the years
-by-year : (paid : ℕ → ℕ) (time year : ℕ) (falls : Bool) → year < time → pos (cond falls (paid year) 0) ≡ int_sum_over (numbers_from 0 time) (λ k. pos (cond (nat_eq year k && falls) (paid k) 0))
+pub by-year : (paid : ℕ → ℕ) (time year : ℕ) (falls : Bool) → year < time → pos (cond falls (paid year) 0) ≡ int_sum_over (numbers_from 0 time) (λ k. pos (cond (nat_eq year k && falls) (paid k) 0))
 by-year paid time year falls h = sym (int_sum_over-pick time 0 year (λ k. pos (cond falls (paid k) 0)) (omega arith) (omega arith)) ∙ int_sum_over-ext (numbers_from 0 time) _ _ (λ k. turn k falls (nat_eq k year) (nat_eq year k) (swapped k))
   where
     swapped : (k : ℕ) → nat_eq k year ≡ nat_eq year k
@@ -70,10 +70,10 @@ by-year paid time year falls h = sym (int_sum_over-pick time 0 year (λ k. pos (
     turn k falls here false e = rw e (omega (arith, ints))
 
 module _ (b : Basis) (end : EndBy b.last_time b.lives) (pay : PlainPay) (rank : ℕ → ℕ) (T : ℕ) (S : ℕ → Bool) where
-  abbrev paid : ℕ → ℕ
+  abbrev pub paid : ℕ → ℕ
   paid k = paid_for_year b pay T k
 
-  abbrev worth : Outcome → Event → ℕ
+  abbrev pub worth : Outcome → Event → ℕ
   worth o = event_value b pay rank T o
 
   exit-by-year : (o : Outcome) (a : ℕ) (way : Option Exit) → ExitBefore b.last_time way → pos (at_exit (worth o) a way) ≡ int_sum_over (numbers_from 0 b.last_time) (λ k. pos (cond (paid_at_exit pay rank T a k o way) (paid k) 0))
@@ -87,6 +87,12 @@ module _ (b : Basis) (end : EndBy b.last_time b.lives) (pay : PlainPay) (rank : 
     where
       from-zero : (a : ℕ) → pos (at_exit (worth o) (0 + a) (get_or o a None)) ≡ pos (at_exit (worth o) a (get_or o a None))
       from-zero a = let e : 0 + a ≡ a = omega arith in ap (λ n. pos (at_exit (worth o) n (get_or o a None))) e
+
+  -- what is paid on the leaving of a life is the expectation of what its exit is worth
+  pub leaving-part-is : (a : ℕ) → expected T S b.lives (λ o. pos (at_exit (worth o) a (get_or o a None))) ≡ leaving_part b pay rank T S a
+  leaving-part-is a = expected-where T S b.lives _ _ (λ o comes. exit-by-year o a (get_or o a None) (exit-before b.last_time T S b.lives end o comes a))
+      ∙ expected-sum T S b.lives (numbers_from 0 b.last_time) (λ k o. pos (cond (paid_on_leaving pay rank T a k o) (paid k) 0))
+      ∙ int_sum_over-ext (numbers_from 0 b.last_time) _ _ (λ k. expected-paid T S b.lives true (paid k) (paid_on_leaving pay rank T a k))
 
   leavings-value : expected T S b.lives (λ o. pos (sum_over (leavings 0 o) (worth o))) ≡ int_sum_over (numbers_from 0 (length b.lives)) (leaving_part b pay rank T S)
   leavings-value = expected-where T S b.lives _ _ (λ o comes. leavings-by-year o comes)

@@ -32,7 +32,7 @@ pub split_at : (ms : List Status) (i : ℕ) (s : Status) → i < length ms → s
 split_at ms i s within h = left_at ms i s within (sym (get_or_from_slice_get ms i s s h))
 
 -- a member is named and counted among those that it stands before
-names_life-at : (ms : List Status) (i : ℕ) (s : Status) → slice_get ms i ≡ Some s → (a : ℕ) → names_life a (tree_of s) ≡ true → any_names_life a (trees_in ms) ≡ true
+pub names_life-at : (ms : List Status) (i : ℕ) (s : Status) → slice_get ms i ≡ Some s → (a : ℕ) → names_life a (tree_of s) ≡ true → any_names_life a (trees_in ms) ≡ true
 names_life-at [] i s h a e = absurd (cc)
 names_life-at (m ∷ ms) zero s h a e = let q : m ≡ s = grind arith in rw q (or-left _ _ e)
 names_life-at (m ∷ ms) (suc i) s h a e = or-right (names_life a (tree_of m)) _ (names_life-at ms i s h a e)

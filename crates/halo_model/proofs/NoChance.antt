@@ -18,7 +18,7 @@ use Rattle.halo_model.specs.ChanceLaws.{NoChanceOnOtherEnd, NoChanceOnOtherLeavi
 use Rattle.halo_model.proofs.Agreement.{agree}
 use Rattle.halo_model.proofs.Expected.{expected-none}
 
-other-than : (a i : ℕ) → (i ≡ a → ⊥) → nat_eq a i ≡ false
+pub other-than : (a i : ℕ) → (i ≡ a → ⊥) → nat_eq a i ≡ false
 other-than a i h = grind (arith, nat_tests)
 
 pub get_or-each_exists : (alive on : ℕ → Bool) (ms : Trees) (p : ℕ) (s : Tree) → member_at ms p ≡ Some s → get_or (each_exists alive on ms) p false ≡ exists alive on s

@@ -15,7 +15,7 @@ use Rattle.halo_model.specs.ChanceLaws.{NoChanceOnEndOutside, NoChanceOnLeavingO
 use Rattle.halo_model.proofs.Expected.{Comes, expected-none, expected-where}
 
 -- an exit that comes is that of a life that is alive at T, in a year from T on that its table has
-comes-year : (T : ℕ) (S : ℕ → Bool) (lives : List PlainLife) (o : Outcome) → Comes T S lives o → (a : ℕ) (x : Exit) → get_or o a None ≡ Some x → (S a ≡ true) × (T ≤ x.year) × HasYear a x.year lives
+pub comes-year : (T : ℕ) (S : ℕ → Bool) (lives : List PlainLife) (o : Outcome) → Comes T S lives o → (a : ℕ) (x : Exit) → get_or o a None ≡ Some x → (S a ≡ true) × (T ≤ x.year) × HasYear a x.year lives
 comes-year T S [] [] comes a x e = absurd (cc)
 comes-year T S [] (way ∷ o) comes a x e = absurd comes
 comes-year T S (y ∷ lives) [] comes a x e = absurd comes
