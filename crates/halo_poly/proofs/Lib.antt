@@ -1,0 +1,10 @@
+pub mod Masks
+pub mod Passes
+pub mod Steps
+pub mod Transforms
+pub mod Within
+pub mod SymmetricSums
+pub mod Picked
+pub mod Values
+pub mod Counted
+pub mod Bounded

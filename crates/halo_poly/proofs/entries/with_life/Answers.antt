@@ -1,0 +1,21 @@
+-- A set without a life is part of a set with it.
+use Rattle.std.proofs.Common.{◌≡◌, ◌+◌, ◌*◌, ◌%◌, ◌^◌, refl, rules, sym, ◌∙◌, true, false, get_or, pos, SFits, w64}
+use Rattle.std.proofs.lemmas.Int.{to_z-of_z}
+use Rattle.halo_sums.specs.Masks.{has_bit}
+use Rattle.halo_poly.specs.Transform.{with_life}
+use Rattle.halo_poly.proofs.Masks.{whole}
+use Rattle.halo_poly.proofs.entries.with_life.Goals as goal
+
+pub returns-then-has_bit : goal.returns-then-has_bit
+unfolding with_life
+returns-then-has_bit c =
+    let there : has_bit c.args.mask c.args.life ≡ true = sym c.has_bit.ensures ∙ c.if-has_bit.true in
+    rw there refl
+
+pub returns-else-has_bit : goal.returns-else-has_bit
+unfolding with_life
+returns-else-has_bit c =
+    let gone : has_bit c.args.mask c.args.life ≡ false = sym c.has_bit.ensures ∙ c.if-has_bit.false in
+    let at = c.args.mask + 1 * 2 ^ c.args.life % 18446744073709551616 in
+    let fits : SFits w64 (get_or c.args.values.now at (pos 0)) = search rules in
+    to_z-of_z w64 (get_or c.args.values.now at (pos 0)) fits ∙ rw (gone, whole c.args.life c.requires.few) refl

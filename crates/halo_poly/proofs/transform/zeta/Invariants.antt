@@ -1,0 +1,8 @@
+-- The passes for the lives before this one are made.
+use Rattle.halo_poly.specs.Poly.{coefficient_of}
+use Rattle.halo_poly.proofs.Passes.{sum_passes}
+use Rattle.halo_poly.proofs.Transforms.{Holds}
+use Rattle.halo_poly.proofs.transform.zeta.Given as goal
+
+abbrev pub invariant-loop-life : goal.invariant-loop-life
+invariant-loop-life l = Holds l.lives (sum_passes l.life (coefficient_of l.fn.values)) l.values

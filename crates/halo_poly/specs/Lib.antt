@@ -1,0 +1,3 @@
+pub mod Poly
+pub mod Transform
+pub mod Symmetric

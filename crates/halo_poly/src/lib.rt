@@ -1,0 +1,20 @@
+//! Polynomials of lives: whole coefficients, one for each set of lives, as inclusion and exclusion
+//! gives them.
+//!
+//! A set of lives is a mask, life i as bit i. The value of a polynomial on a set is the sum of its
+//! coefficients over the subsets of the set, so that the coefficients of a status add up, on each
+//! set of lives, to 1 where the status exists and to 0 where it does not.
+#![tactic(auto)]
+
+mod entries;
+pub mod laws;
+mod memory;
+mod poly;
+mod survivors;
+#[cfg(test)]
+mod tests;
+mod transform;
+
+pub use memory::Memory;
+pub use poly::{LARGEST_COEFFICIENT, MOST_SETS, Poly};
+pub use survivors::{at_least, exactly, symmetric};
