@@ -1,0 +1,5 @@
+pub mod Enclosed
+pub mod Table
+pub mod Cost
+pub mod Loss
+pub mod Present

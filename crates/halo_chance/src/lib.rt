@@ -1,0 +1,15 @@
+//! The chance that a status of independent lives exists, along its tree.
+//!
+//! A status in which no life stands twice needs no sums over sets of lives: its members are
+//! independent of each other, so their chances multiply.
+#![tactic(auto)]
+
+mod along;
+pub mod laws;
+mod leaving;
+mod mark;
+mod table;
+
+pub use along::chance;
+pub use leaving::loss;
+pub use mark::chance_of_mark;
