@@ -1,7 +1,6 @@
 -- The exact values of a contract, by the model of life contracts, and what a report encloses.
 use Rattle.std.specs.Prelude.{ℕ, List, [], ◌∷◌, map, Option, None, Some, ⊤, pos, ◌+ℤ◌, ◌≤ℤ◌}
 use Rattle.halo_interest.specs.declared.rate.Rate.{Rate}
-use Rattle.halo_interest.specs.Rates.{rate_of}
 use Rattle.halo_num.specs.Enclosure.{Encloses, EnclosesPrinted}
 use Rattle.halo_num.specs.Ends.{Ends}
 use Rattle.halo_num.specs.declared.nano.Nano.{Nano}
@@ -12,27 +11,17 @@ use Rattle.halo_status.specs.declared.pay.Vary.TheVariants.{Level}
 use Rattle.halo_table.specs.DecrementTable.{TableFile}
 use Rattle.halo_table.specs.declared.lives.Life.{Life}
 use Rattle.halo_model.specs.Basis.{Basis}
-use Rattle.halo_model.specs.FromTables.{lives_of}
 use Rattle.halo_model.specs.Order as model
 use Rattle.halo_model.specs.Order.{all_orders, declared_order}
 use Rattle.halo_model.specs.Premium.{all_lives}
 use Rattle.halo_model.specs.Value.{denominator, numerator, total_numerator}
 use Rattle.halo_model.specs.Widths.{printed_pay_width, printed_total_width}
+use Rattle.halo_life.specs.Basis.{basis_of}
 use Rattle.halo_parse.specs.Draft.{Draft}
 use Rattle.halo_parse.specs.Reading.{rule_of}
 use Rattle.halo_top.specs.declared.one_life.OneLife.{OneLife}
 use Rattle.halo_parse.specs.declared.ties.Ties.{Ties}
 use Rattle.halo_parse.specs.declared.ties.Ties.TheVariants as rule
-
--- the basis of a contract: its interest by years, its lives in their tables, and its rule for ties; payments are looked at up to time 200
-abbrev pub basis_of : TableFile → List Rate → List Life → model.Ties → Basis
-basis_of tables rates lives ties = record {
-  p = λ k. (rate_of rates k).p;
-  q = λ k. (rate_of rates k).q;
-  last_time = 200;
-  lives = lives_of tables lives;
-  ties = ties;
-}
 
 -- the basis of a contract of one life
 abbrev pub one_life_basis : TableFile → List Rate → Life → Basis

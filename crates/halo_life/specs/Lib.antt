@@ -1,0 +1,5 @@
+pub mod Lists
+pub mod Products
+pub mod Total
+pub mod PlainGroup
+pub mod Basis
