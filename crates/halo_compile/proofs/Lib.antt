@@ -1,0 +1,9 @@
+pub mod Members
+pub mod SetLists
+pub mod Unchanged
+pub mod Changes
+pub mod Marked
+pub mod Runs
+pub mod Built
+pub mod Weights
+pub mod Times

@@ -1,0 +1,5 @@
+pub mod Form
+pub mod Marks
+pub mod Terms
+pub mod Weight
+pub mod ValidTask

@@ -1,0 +1,97 @@
+// On which sets of lives a pay exists, 64 sets at a time.
+ghost use Rattle.std.specs.Prelude.{◌≡◌, ◌≢◌, ◌/◌, ◌%◌, ◌^◌, ◌<◌, ◌≤◌, false, get_or, length};
+ghost use Rattle.halo_sums.specs.Masks.{has_bit};
+ghost use Rattle.halo_status.specs.Blocks.{IsInBlock};
+ghost use Rattle.halo_status.specs.Exists.{each_exists};
+ghost use Rattle.halo_status.specs.Pay.{pay_of};
+ghost use Rattle.halo_status.specs.StatusTree.{trees_in};
+ghost use Rattle.halo_status.specs.View.{is_on};
+ghost use Rattle.halo_model.specs.Coefficient.{view_of, waits_at_rank};
+ghost use Rattle.halo_compile.specs.Marks.{MarksBlock, MarksExistence};
+
+use halo_status::{Kind, Mark, Members, Pay, Status, View, exactly_in_block};
+
+// At which end of the years a kind of pay looks at its terms.
+pub(crate) fn view_of(kind: Kind) -> View
+    ensures { result ≡ view_of kind }
+{
+    match kind {
+        Kind::Insurance | Kind::Due => View::Due,
+        Kind::Immediate => View::Immediate,
+    }
+}
+
+// On which sets of a block the member at a place exists.
+fn member_exists(members: &Members, place: usize, block: u16, view: View, t: u16) -> u64
+    ensures { IsInBlock block (λ alive. get_or (each_exists alive (is_on view t) (trees_in members.now)) place false) result }
+{
+    if place < members.len() {
+        members.at(place).exists_in_block(block, view, t)
+    } else {
+        0
+    }
+}
+
+// On which sets of a block the marked member exists and exactly as many others as there are when it is
+// next to fail at its rank.
+fn waits_at_rank(members: &Members, mark: Mark, block: u16, view: View, t: u16) -> u64
+    ensures { IsInBlock block (λ alive. waits_at_rank mark (each_exists alive (is_on view t) (trees_in members.now))) result }
+{
+    let others = members.len().saturating_sub(mark.rank as usize);
+    let count = (others + 1) as u8;
+    member_exists(members, mark.member as usize, block, view, t)
+        & exactly_in_block(members, count, block, view, t)
+}
+
+// On which sets of a block a pay exists at a time: its body, or its marked member at its rank.
+#[tactic(auto, using(halo_status::proofs::Shapes::shapes))]
+fn exists_by_mark(pay: &Pay, block: u16, t: u16) -> u64
+    ensures { MarksBlock (pay_of pay.now) t block result }
+{
+    let view = view_of(pay.kind);
+    match pay.mark {
+        None => pay.body.exists_in_block(block, view, t),
+        Some(mark) => match &pay.body {
+            Status::Joint(members) => waits_at_rank(members, mark, block, view, t),
+            Status::Life(_) => 0,
+            Status::Term(_) => 0,
+            Status::Last(_) => 0,
+            Status::AtLeast(..) => 0,
+            Status::Exactly(..) => 0,
+            Status::After(..) => 0,
+        },
+    }
+}
+
+// On which sets of the block of a set a pay exists, given what there was for the set before it.
+fn marks_at(pay: &Pay, set: usize, before: u64, t: u16) -> u64
+    requires few { set < 2 ^ 12 }
+    requires before { set % 64 ≢ 0 → MarksBlock (pay_of pay.now) t (set / 64) before }
+    ensures { MarksBlock (pay_of pay.now) t (set / 64) result }
+{
+    if set % 64 == 0 {
+        exists_by_mark(pay, (set / 64) as u16, t)
+    } else {
+        before
+    }
+}
+
+// Whether a set is marked in its block.
+fn is_marked(marks: u64, set: usize) -> bool
+    ensures { result ≡ has_bit marks (set % 64) }
+{
+    marks >> (set % 64) & 1 == 1
+}
+
+// Marks the sets of lives on which a pay exists at a time.
+pub(crate) fn mark_existence(marked: &mut [bool], pay: &Pay, t: u16)
+    requires { length marked.old ≤ 2 ^ 12 }
+    ensures length { length marked.new ≡ length marked.old }
+    ensures marks { MarksExistence (pay_of pay.now) t marked.new }
+{
+    let mut marks = 0;
+    for set in 0..marked.len() {
+        marks = marks_at(pay, set, marks, t);
+        marked[set] = is_marked(marks, set);
+    }
+}

@@ -1,0 +1,20 @@
+//! The compiled form of a pay: for each run of times at which the pay exists on the same sets of
+//! lives, the polynomial of its existence by inclusion and exclusion.
+//!
+//! The expected value of a pay is then a sum over sets of lives, of the coefficients times the
+//! probabilities that all lives of the set are alive. A task puts a form together with the lives and
+//! the interest that it is valued with.
+#![tactic(auto)]
+
+mod existence;
+mod form;
+mod memory;
+mod segments;
+mod task;
+#[cfg(test)]
+mod tests;
+
+pub use form::{Form, Segment};
+pub use memory::Memory;
+pub use segments::compile;
+pub use task::Task;
