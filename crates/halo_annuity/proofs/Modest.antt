@@ -1,0 +1,87 @@
+-- The values of all sets stay small numbers.
+use Rattle.std.proofs.Common.{◌≡◌, ℕ, zero, suc, ◌+◌, ◌*◌, ◌-◌, ◌^◌, ◌≤◌, List, length, Bool, ℤ, pos, negsuc, arith}
+use Rattle.std.proofs.Math.Nat.{mul-le-mul_right, pow-le-pow_right}
+use Rattle.std.proofs.lemmas.Nat.{mul-le}
+use Rattle.std.proofs.lemmas.Int.{ints}
+use Rattle.halo_sums.specs.Sets.{in_set, size_of}
+use Rattle.halo_sums.specs.Masks.{bits}
+use Rattle.halo_sums.proofs.Bounds.{coefficients-bounded}
+use Rattle.halo_num.specs.Ends.{Ends, IsSized, IsWithin, fine}
+use Rattle.halo_status.specs.Pay.{PlainPay}
+use Rattle.halo_status.specs.View.{is_on}
+use Rattle.halo_status.specs.ValidPay.{HasValidVary}
+use Rattle.halo_status.specs.declared.pay.Vary.{Vary}
+use Rattle.halo_status.specs.declared.pay.Vary.TheVariants.{Level, Increasing, Decreasing}
+use Rattle.halo_model.specs.Coefficient.{exists_by_mark, form, view_of}
+use Rattle.halo_model.specs.Counts.{greatest_factor}
+use Rattle.halo_model.specs.Basis.{Basis}
+use Rattle.halo_model.specs.Backward.{above_zero, below_zero, gain, loss, paid_at}
+use Rattle.halo_life.specs.Lists.{Lists}
+use Rattle.halo_life.specs.Total.{AreModest}
+use Rattle.halo_annuity.specs.Worth.{HoldCarried, HoldValues, most_paid}
+use Rattle.halo_annuity.proofs.Counting.{paid-within}
+use Rattle.halo_sums.proofs.SetMasks.{length-bits}
+use Rattle.halo_annuity.proofs.Survivors.{size-within}
+
+-- the coefficient of a set of at most twelve lives
+pub coefficient-sized : (pay : PlainPay) (t : ℕ) (s : List Bool) → length s ≤ 12 → IsSized (form pay t s) (2 ^ 11)
+unfolding form
+coefficient-sized pay t s few =
+    let bound = coefficients-bounded (λ u. exists_by_mark pay.mark pay.body (in_set u) (is_on (view_of pay.kind) t)) s in
+    let less : size_of s - 1 ≤ 11 = omega (arith, few, size-within s) in
+    let power : 2 ^ (size_of s - 1) ≤ 2 ^ 11 = pow-le-pow_right (omega arith) less in
+    record { low = omega (arith, ints, bound.0, power); high = omega (arith, ints, bound.1, power) }
+
+above-sized : (z : ℤ) (n : ℕ) → IsSized z n → above_zero z ≤ n
+above-sized (pos m) n h = omega (arith, ints, h.high)
+above-sized (negsuc m) n h = omega arith
+
+below-sized : (z : ℤ) (n : ℕ) → IsSized z n → below_zero z ≤ n
+below-sized (pos m) n h = omega arith
+below-sized (negsuc m) n h = omega (arith, ints, h.low)
+
+pub factor-sized : (vary : Vary) → HasValidVary vary → greatest_factor vary 200 ≤ 201
+factor-sized Level h = omega arith
+factor-sized Increasing h = omega arith
+factor-sized (Decreasing n) h = omega (arith, h.1)
+
+module _ (pay : PlainPay) (one : pay.amount ≡ 1) (varies : HasValidVary pay.vary) (T n mask : ℕ) (few : n ≤ 12) where
+  sized : (t : ℕ) → IsSized (form pay t (bits n mask)) (2 ^ 11)
+  sized t = coefficient-sized pay t (bits n mask) (omega (arith, few, length-bits n mask))
+
+  gain-small : (t : ℕ) → t ≤ 200 → gain pay T (bits n mask) t ≤ 201 * 2 ^ 11
+  gain-small t h =
+      let paid : paid_at pay T t ≤ 201 = omega (arith, paid-within pay one T t 200 h, factor-sized pay.vary varies) in
+      let c : above_zero (form pay t (bits n mask)) ≤ 2 ^ 11 = above-sized (form pay t (bits n mask)) (2 ^ 11) (sized t) in
+      mul-le (paid_at pay T t) (above_zero (form pay t (bits n mask))) 201 (2 ^ 11) paid c
+
+  loss-small : (t : ℕ) → t ≤ 200 → loss pay T (bits n mask) t ≤ 201 * 2 ^ 11
+  loss-small t h =
+      let paid : paid_at pay T t ≤ 201 = omega (arith, paid-within pay one T t 200 h, factor-sized pay.vary varies) in
+      let c : below_zero (form pay t (bits n mask)) ≤ 2 ^ 11 = below-sized (form pay t (bits n mask)) (2 ^ 11) (sized t) in
+      mul-le (paid_at pay T t) (below_zero (form pay t (bits n mask))) 201 (2 ^ 11) paid c
+
+pub most-small : (paid : ℕ → ℕ) (bound years t : ℕ) → ((u : ℕ) → u ≤ 200 → paid u ≤ bound) → t + years ≤ 201 → most_paid paid t years ≤ years * bound
+most-small paid bound zero t each h = omega arith
+most-small paid bound (suc years) t each h = omega (arith, each t (omega (arith, h)), most-small paid bound years (suc t) each (omega (arith, h)))
+
+pub small-within : (i : Ends) (most years : ℕ) → years ≤ 201 → most ≤ years * (201 * 2 ^ 11) → IsWithin i (pos 0) (pos (most * fine)) → IsWithin i (pos 0) (pos (10 ^ 32))
+small-within i most years few h within =
+    let m : most ≤ 10 ^ 14 = omega (arith, few, h) in
+    let n : most * fine ≤ 10 ^ 14 * fine = mul-le-mul_right fine m in
+    record { low = within.low; high = omega (arith, ints, within.high, n) }
+
+module _ (b : Basis) (pay : PlainPay) (one : pay.amount ≡ 1) (varies : HasValidVary pay.vary) (T n : ℕ) (few : n ≤ 12) (lists : Lists) where
+  pub values-modest : (t years : ℕ) → t + years ≤ 201 → HoldValues b pay T n t years lists → AreModest (2 ^ n) lists
+  values-modest t years h values mask below =
+      let v = values mask below in (
+        small-within _ _ years (omega (arith, h)) (most-small (gain pay T (bits n mask)) (201 * 2 ^ 11) years t (gain-small pay one varies T n mask few) h) v.0.within,
+        small-within _ _ years (omega (arith, h)) (most-small (loss pay T (bits n mask)) (201 * 2 ^ 11) years t (loss-small pay one varies T n mask few) h) v.1.within,
+      )
+
+  pub carried-modest : (t years : ℕ) → suc t + years ≤ 201 → HoldCarried b pay T n t years lists → AreModest (2 ^ n) lists
+  carried-modest t years h values mask below =
+      let v = values mask below in (
+        small-within _ _ years (omega (arith, h)) (most-small (gain pay T (bits n mask)) (201 * 2 ^ 11) years (suc t) (gain-small pay one varies T n mask few) h) v.0.within,
+        small-within _ _ years (omega (arith, h)) (most-small (loss pay T (bits n mask)) (201 * 2 ^ 11) years (suc t) (loss-small pay one varies T n mask few) h) v.1.within,
+      )

@@ -1,0 +1,160 @@
+-- The part that a coefficient of one segment of a task's form adds.
+use Rattle.std.proofs.Common.{◌≡◌, ◌≢◌, ℕ, suc, ◌+◌, ◌*◌, ◌^◌, ◌<◌, ◌≤◌, List, length, Bool, ℤ, pos, neg_ℤ, ◌-ℤ◌, ◌*ℤ◌, arith, refl, sym, subst, ◌∙◌}
+use Rattle.std.proofs.Math.Nat.{mul-le-mul_right}
+use Rattle.std.proofs.lemmas.Int.{ints}
+use Rattle.halo_sums.specs.Sums.{sum_over}
+use Rattle.halo_sums.specs.Sets.{in_set}
+use Rattle.halo_sums.specs.Masks.{bits}
+use Rattle.halo_sums.proofs.SetMasks.{length-bits}
+use Rattle.halo_num.specs.Ends.{Ends, HasWidth, IsSized, IsWithin, fine}
+use Rattle.halo_num.specs.Enclosure.{Encloses}
+use Rattle.halo_interest.specs.Rates.{IsInterest, rate_of}
+use Rattle.halo_interest.proofs.InForce.{in_force_is}
+use Rattle.halo_status.specs.Pay.{pay_of}
+use Rattle.halo_status.specs.declared.pay.Kind.TheVariants.{Insurance}
+use Rattle.halo_table.specs.DecrementTable.{survivors_at}
+use Rattle.halo_model.specs.Basis.{accumulated, taken}
+use Rattle.halo_model.specs.Outcome.{joint_survivors}
+use Rattle.halo_model.specs.Order.{Ties}
+use Rattle.halo_model.specs.Coefficient.{form}
+use Rattle.halo_model.specs.Counts.{measures_of, most_worth, width_count}
+use Rattle.halo_model.specs.FromTables.{lives_of}
+use Rattle.halo_model.specs.Horizon.{horizon, life_at}
+use Rattle.halo_model.specs.Premium.{all_lives}
+use Rattle.halo_model.specs.Segment.{Run, last_time_of_form}
+use Rattle.halo_model.specs.Value.{denominator}
+use Rattle.halo_model.specs.Backward.{above_zero, backward, below_zero, without}
+use Rattle.halo_model.specs.RunPart.{paid_to_set, run_part, times_of}
+use Rattle.halo_model.proofs.Backward.{survivors-split}
+use Rattle.halo_model.proofs.RunParts.{lies-in-all}
+use Rattle.halo_life.specs.PlainGroup.{IsGroup}
+use Rattle.halo_poly.specs.Poly.{coefficient_at}
+use Rattle.halo_compile.specs.Form.{IsInForm, run_of, segment_at}
+use Rattle.halo_compile.proofs.Times.{coefficients-by-mask, segment-in-form, segment-is-right}
+use Rattle.halo_compile.specs.ValidTask.{IsTask}
+use Rattle.halo_compile.specs.declared.form.Segment.{Segment}
+use Rattle.halo_compile.specs.declared.task.Task.{Task}
+use Rattle.halo_annuity.specs.Pass.{basis_of_task, pay_of_task}
+use Rattle.halo_annuity.specs.RunWorth.{EnclosesRun, paid_in}
+use Rattle.halo_annuity.specs.Worth.{EnclosesSet}
+use Rattle.halo_annuity.proofs.Carried.{positive-both, positive-left, wider}
+use Rattle.halo_annuity.proofs.Living.{row-survives}
+use Rattle.halo_annuity.proofs.Modest.{coefficient-sized}
+use Rattle.halo_annuity.proofs.Passes.{form-of-one}
+use Rattle.halo_annuity.proofs.RunWorths.{part-narrow, part-sized, run-sums, run-within, signed-part, times-sized}
+use Rattle.halo_annuity.proofs.TaskFacts.{count-lives, last-in, some-interest, some-nodes, some-survive, some-years}
+
+whole-is : (orders all this others interest : ℕ) → all ≡ this * others → orders * (all * interest) ≡ this * interest * (orders * others)
+whole-is orders all this others interest e = rw e (omega arith)
+
+module _ {n m : ℕ} (task : Task n m) (is : IsTask task) (group : IsGroup n task.group.now) (place mask : ℕ) (there : place < length task.form.now) (inside : mask < m) where
+  abbrev pub run : Run
+  run = run_of (segment_at task.form.now place)
+
+  abbrev pub coefficient : ℤ
+  coefficient = coefficient_at (segment_at task.form.now place).poly mask
+
+  abbrev pub times : ℕ
+  times = above_zero coefficient + below_zero coefficient
+
+  pub in-form : IsInForm (pay_of task.pay.now) task.horizon run
+  in-form = segment-in-form (pay_of task.pay.now) n task.horizon place task.form.now is.form there
+
+  below-all : mask < 2 ^ n
+  below-all = subst (λ (k : ℕ). mask < k) is.sets inside
+
+  -- the coefficient is that of the form at the first time of the segment
+  coefficient-of : coefficient ≡ form (pay_of task.pay.now) run.first (bits n mask)
+  coefficient-of = coefficients-by-mask (pay_of task.pay.now) n run.first (segment_at task.form.now place).poly
+      (segment-is-right (pay_of task.pay.now) n task.horizon run.first place task.form.now is.form (record { within = there; from = omega arith; to = in-form.some })) mask below-all
+
+  coefficient-is : coefficient ≡ form (pay_of_task task) run.first (bits n mask)
+  coefficient-is = coefficient-of ∙ form-of-one (pay_of task.pay.now) run.first (bits n mask)
+
+  pub coefficient-small : IsSized coefficient (2 ^ 11)
+  coefficient-small = rw coefficient-of (coefficient-sized (pay_of task.pay.now) run.first (bits n mask) (omega (arith, group.few, length-bits n mask)))
+
+  pub times-small : times ≤ 2 ^ 11
+  times-small = times-sized coefficient (2 ^ 11) coefficient-small
+
+  to-small : run.last ≤ task.horizon
+  to-small = omega (arith, in-form.to, last-in task.pay.now.kind task.horizon)
+
+  pub held-in-form : (segment : Segment m) → segment ≡ segment_at task.form.now place → IsInForm (pay_of task.pay.now) task.horizon (record { first = segment.from; last = segment.to })
+  held-in-form segment e = subst (λ (s : Segment m). IsInForm (pay_of task.pay.now) task.horizon (record { first = s.from; last = s.to })) (sym e) in-form
+
+  pub held-times : (above below : ℕ) → above ≡ above_zero coefficient → below ≡ below_zero coefficient → above + below ≤ 2 ^ 11
+  held-times above below f g = omega (arith, f, g, times-small)
+
+  pub held-run : (segment : Segment m) (above below : ℕ) (worth : Ends) → segment ≡ segment_at task.form.now place → above ≡ above_zero coefficient → below ≡ below_zero coefficient
+      → EnclosesRun task (record { first = segment.from; last = segment.to }) (above + below) mask 0 (suc segment.to) worth → EnclosesRun task run times mask 0 (suc run.last) worth
+  held-run segment above below worth e f g holds =
+      let sum : above + below ≡ times = omega (arith, f, g) in
+      subst (λ (k : ℕ). EnclosesRun task run k mask 0 (suc run.last) worth) sum
+      (subst (λ (s : Segment m). EnclosesRun task (record { first = s.from; last = s.to }) (above + below) mask 0 (suc s.to) worth) e holds)
+
+  pub to-horizon : (n + 2) * run.last ≤ (n + 2) * task.horizon
+  to-horizon = let h = mul-le-mul_right (n + 2) to-small in omega (arith, h)
+
+  module _ (ties : Ties) where
+    -- with all lives alive at the start
+    all-survive : 0 < joint_survivors 0 all_lives (basis_of_task task ties).lives
+    all-survive = some-survive task.group.now.file 0 all_lives task.group.now.lives (λ i below alive.
+        let row = row-survives task.group.now.file group.sound (life_at task.group.now.lives i).table (life_at task.group.now.lives i).age (group.rows i (omega (arith, below, group.count))) in
+        let e : (life_at task.group.now.lives i).age + 0 ≡ (life_at task.group.now.lives i).age = omega arith in
+        subst (λ (age : ℕ). 0 < survivors_at task.group.now.file (life_at task.group.now.lives i).table age) (sym e) row)
+
+    split : joint_survivors 0 all_lives (basis_of_task task ties).lives
+        ≡ joint_survivors 0 (in_set (bits n mask)) (basis_of_task task ties).lives * joint_survivors 0 (without all_lives (bits n mask)) (basis_of_task task ties).lives
+    split = survivors-split 0 all_lives (basis_of_task task ties).lives (bits n mask) (length-bits n mask ∙ sym (count-lives task.group.now ∙ group.count)) (lies-in-all (bits n mask) all_lives (λ i. refl))
+
+    pub part-encloses : IsInterest task.interest.now → (worth result : Ends) → EnclosesSet (basis_of_task task ties) n (paid_in (pay_of_task task) run times) (bits n mask) 0 (suc run.last) worth
+        → (below_zero coefficient ≡ 0 → (num : ℤ) (den : ℕ) → Encloses worth num den → Encloses result num den)
+        → (0 < below_zero coefficient → (num : ℤ) (den : ℕ) → Encloses worth num den → Encloses result (pos 0 -ℤ num) den)
+        → Encloses result (run_part (basis_of_task task ties) (pay_of_task task) run (bits n mask)) (denominator (basis_of_task task ties) 0 all_lives)
+    unfolding run_part denominator
+    part-encloses interest worth result holds positive negative =
+        let b = basis_of_task task ties in
+        let s : List Bool = bits n mask in
+        let num : ℕ = backward b s (paid_in (pay_of_task task) run times) 0 (suc run.last) in
+        let parts : ℕ = sum_over (times_of run) (paid_to_set b (pay_of_task task) s) in
+        let others : ℕ = joint_survivors 0 (without all_lives s) b.lives in
+        let this : ℕ = joint_survivors 0 (in_set s) b.lives in
+        let orders : ℕ = length (taken b) in
+        let interests = some-interest (λ k. (rate_of task.interest.now k).p) (λ k. (rate_of task.interest.now k).q) (λ k. (in_force_is task.interest.now interest k).q_from) 200 0 in
+        let some : 0 < this = positive-left this others (subst (λ (k : ℕ). 0 < k) split all-survive) in
+        let one = holds.encloses (positive-both this (accumulated b 0) some interests) in
+        let whole : orders * (joint_survivors 0 all_lives b.lives * accumulated b 0) ≡ this * accumulated b 0 * (orders * others) = whole-is orders (joint_survivors 0 all_lives b.lives) this others (accumulated b 0) split in
+        subst (λ z. Encloses result (pos orders *ℤ (z *ℤ pos parts)) (orders * (joint_survivors 0 all_lives b.lives * accumulated b 0))) coefficient-is
+        (signed-part coefficient num parts others orders (this * accumulated b 0) (orders * (joint_survivors 0 all_lives b.lives * accumulated b 0)) result
+        (run-sums b (pay_of_task task) run times s in-form.some) whole (λ e. positive e (pos num) (this * accumulated b 0) one) (λ e. negative e (pos num) (this * accumulated b 0) one))
+
+    in-years : IsInForm (pay_of_task task) (horizon (basis_of_task task ties).lives (pay_of_task task).body) run
+    in-years = let h = in-form in record { from = h.from; some = h.some; to = subst (λ (years : ℕ). run.last ≤ last_time_of_form task.pay.now.kind years) is.horizon_is h.to }
+
+    pub term-narrow : task.pay.now.kind ≢ Insurance → (worth : Ends) → EnclosesSet (basis_of_task task ties) n (paid_in (pay_of_task task) run times) (bits n mask) 0 (suc run.last) worth
+        → HasWidth worth (width_count (measures_of (basis_of_task task ties) (pay_of_task task)))
+    term-narrow annual worth holds = wider worth _ _
+        (part-narrow (basis_of_task task ties) (pay_of_task task) annual refl (some-nodes (pay_of task.pay.now).body) (some-years (lives_of task.group.now.file task.group.now.lives) (pay_of task.pay.now).body)
+        n mask (count-lives task.group.now ∙ group.count) below-all run in-years coefficient coefficient-is group.few) holds.narrow
+
+    pub term-within : task.pay.now.kind ≢ Insurance → (worth : Ends) → EnclosesSet (basis_of_task task ties) n (paid_in (pay_of_task task) run times) (bits n mask) 0 (suc run.last) worth
+        → IsWithin worth (pos 0) (pos ((measures_of (basis_of_task task ties) (pay_of_task task)).weight * most_worth task.pay.now.kind (measures_of (basis_of_task task ties) (pay_of_task task)) * fine))
+    term-within annual worth holds =
+        let most = part-sized (basis_of_task task ties) (pay_of_task task) annual refl (some-nodes (pay_of task.pay.now).body) (some-years (lives_of task.group.now.file task.group.now.lives) (pay_of task.pay.now).body)
+        n mask (count-lives task.group.now ∙ group.count) below-all run in-years coefficient coefficient-is in
+        let ones = mul-le-mul_right fine most in
+        record { low = holds.within.low; high = omega (arith, ints, holds.within.high, ones) }
+
+    pub term-small : (worth : Ends) → EnclosesSet (basis_of_task task ties) n (paid_in (pay_of_task task) run times) (bits n mask) 0 (suc run.last) worth → IsWithin worth (pos 0) (pos (10 ^ 32))
+    term-small worth holds = run-within (pay_of_task task) run times (basis_of_task task ties) n 0 (suc run.last) (bits n mask) worth refl is.valid.vary times-small (omega (arith, to-small, is.horizon_in)) holds
+
+-- what is from 0 to a bound is at most the bound in size, and so is what it takes off 0
+pub both-ways : (i : Ends) (most : ℕ) → IsWithin i (pos 0) (pos most) → IsWithin i (neg_ℤ (pos most)) (pos most)
+both-ways i most h = record { low = omega (arith, ints, h.low); high = h.high }
+
+pub turned : (i r : Ends) (most : ℕ) → IsWithin i (pos 0) (pos most) → {a b : ℤ} → r.lo ≡ a -ℤ i.hi → r.hi ≡ b -ℤ i.lo → a ≡ pos 0 → b ≡ pos 0 → IsWithin r (neg_ℤ (pos most)) (pos most)
+turned i r most h lo hi none nothing = record { low = omega (arith, ints, lo, none, h.high); high = omega (arith, ints, hi, nothing, h.low) }
+
+pub zero-encloses : (i : Ends) (d : ℕ) → i.lo ≡ pos 0 → i.hi ≡ pos 0 → Encloses i (pos 0) d
+zero-encloses i d lo hi = record { low = rw lo (omega (arith, ints)); high = rw hi (omega (arith, ints)) }

@@ -1,0 +1,137 @@
+// The pass year by year: all sets of lives at the horizon, a year back, and the value at any time.
+ghost use Rattle.std.specs.Prelude.{◌≡◌, ◌≢◌, ℕ, suc, ◌+◌, ◌-◌, ◌*◌, ◌^◌, ◌<◌, ◌≤◌, pos};
+ghost use Rattle.halo_sums.specs.Masks.{has_bit};
+ghost use Rattle.halo_num.specs.Ends.{HasWidth};
+ghost use Rattle.halo_num.specs.Enclosure.{Encloses};
+ghost use Rattle.halo_status.specs.Pay.{pay_of};
+ghost use Rattle.halo_status.specs.declared.pay.Kind.TheVariants.{Due, Immediate, Insurance};
+ghost use Rattle.halo_model.specs.Counts.{lives_named, measures_of, width_count};
+ghost use Rattle.halo_model.specs.Order.{Ties};
+ghost use Rattle.halo_model.specs.Value.{denominator, numerator};
+ghost use Rattle.halo_life.specs.Total.{AreModest};
+ghost use Rattle.halo_compile.specs.ValidTask.{IsTask};
+ghost use Rattle.halo_annuity.specs.Pass.{basis_of_task, last_of_task, pay_of_task};
+ghost use Rattle.halo_annuity.specs.AtTime.{HaveSurvivorsAt, HoldAt};
+ghost use Rattle.halo_annuity.specs.Worth.{HoldCarried, HoldValues};
+
+use crate::named::carry_named_sets;
+use crate::payment::paid_at;
+use crate::sets::{clear, pay_sets};
+use halo_compile::Task;
+use halo_life::Work;
+use halo_num::{Ival, Steps};
+use halo_status::Kind;
+use std::sync::ledger::Ledger;
+
+/// The values of all sets at the horizon of the task, and at any later time: nothing is left to be paid.
+pub fn at_horizon<const N: usize, const M: usize>(task: &Task<N, M>, work: &mut Work<M>)
+    requires task { IsTask task.now }
+    requires annuity { task.now.pay.now.kind ≢ Insurance }
+    ensures values { (t : ℕ) → task.now.horizon ≤ t → HoldAt task.now t work.new }
+{
+    let _start = task.group.start();
+    clear(work);
+}
+
+/// The values of all sets at time `t`, by those at time t + 1. They do not depend on the time of the
+/// task's group. With n lives named by the body the counter is raised by at
+/// most (n + 3) 2^n.
+pub fn year_back<const N: usize, const M: usize, L: Ledger>(
+    task: &Task<N, M>,
+    t: u16,
+    work: &mut Work<M>,
+    steps: &mut Steps<L>,
+)
+    requires task { IsTask task.now }
+    requires annuity { task.now.pay.now.kind ≢ Insurance }
+    requires time { t < task.now.horizon }
+    requires values { HoldAt task.now (suc t) work.old }
+    ensures values { HoldAt task.now t work.new }
+    ensures cost { steps.new ≤ steps.old + (lives_named N (pay_of task.now.pay.now).body + 3) * 2 ^ lives_named N (pay_of task.now.pay.now).body }
+{
+    match task.pay.kind {
+        Kind::Immediate => year_back_immediate(task, t, work, steps),
+        _ => year_back_due(task, t, work, steps),
+    }
+}
+
+/// The value at time `t` of an annuity of 1 with the lives of a set alive, each of which has a row at its
+/// age then: of the payments from `t` on, or after `t` where it is immediate. It is no wider than its
+/// count.
+pub fn value_at<const N: usize, const M: usize>(
+    task: &Task<N, M>,
+    t: u16,
+    alive: u16,
+    work: &Work<M>,
+) -> Ival
+    requires task { IsTask task.now }
+    requires annuity { task.now.pay.now.kind ≢ Insurance }
+    requires time { t ≤ 200 }
+    requires values { HoldAt task.now t work.now }
+    requires alive { HaveSurvivorsAt task.now t alive }
+    ensures encloses { (ties : Ties) → Encloses result
+        (pos (numerator (basis_of_task task.now ties) (pay_of_task task.now) t (has_bit alive)))
+        (denominator (basis_of_task task.now ties) t (has_bit alive)) }
+    ensures narrow { (ties : Ties) → HasWidth result (width_count (measures_of (basis_of_task task.now ties) (pay_of_task task.now))) }
+{
+    // The proof sees here that each year has a fraction, and that the lives have rows.
+    let _fractions = task.interest.fractions();
+    let _start = task.group.start();
+    work.total(alive)
+}
+
+// A year back of an annuity-due: what is paid at time t + 1 and later is carried back, and what is paid
+// at time `t` is added.
+fn year_back_due<const N: usize, const M: usize, L: Ledger>(
+    task: &Task<N, M>,
+    t: u16,
+    work: &mut Work<M>,
+    steps: &mut Steps<L>,
+)
+    requires task { IsTask task.now }
+    requires due { task.now.pay.now.kind ≡ Due }
+    requires time { t < task.now.horizon }
+    requires values { HoldAt task.now (suc t) work.old }
+    ensures values { HoldAt task.now t work.new }
+    ensures cost { steps.new ≤ steps.old + (lives_named N (pay_of task.now.pay.now).body + 3) * 2 ^ lives_named N (pay_of task.now.pay.now).body }
+{
+    let _start = task.group.start();
+    carry_named_sets(task, t, task.pay.body.lives(), work, steps);
+    pay(task, t, t, work);
+}
+
+// A year back of an annuity-immediate: what is paid at time t + 1 is added, which does not count at that
+// time itself, and all is carried back.
+fn year_back_immediate<const N: usize, const M: usize, L: Ledger>(
+    task: &Task<N, M>,
+    t: u16,
+    work: &mut Work<M>,
+    steps: &mut Steps<L>,
+)
+    requires task { IsTask task.now }
+    requires immediate { task.now.pay.now.kind ≡ Immediate }
+    requires time { t < task.now.horizon }
+    requires values { HoldAt task.now (suc t) work.old }
+    ensures values { HoldAt task.now t work.new }
+    ensures cost { steps.new ≤ steps.old + (lives_named N (pay_of task.now.pay.now).body + 3) * 2 ^ lives_named N (pay_of task.now.pay.now).body }
+{
+    let _start = task.group.start();
+    pay(task, t, t + 1, work);
+    carry_named_sets(task, t, task.pay.body.lives(), work, steps);
+}
+
+// Adds what is paid at time `t` in a valuation at `start`.
+fn pay<const N: usize, const M: usize>(task: &Task<N, M>, start: u16, t: u16, work: &mut Work<M>)
+    requires task { IsTask task.now }
+    requires to { t ≤ last_of_task task.now }
+    requires modest { AreModest M work.old }
+    ensures paid { (ties : Ties) (years : ℕ) → HoldCarried (basis_of_task task.now ties) (pay_of_task task.now) start N t years work.old
+        → HoldValues (basis_of_task task.now ties) (pay_of_task task.now) start N t (suc years) work.new }
+{
+    let _start = task.group.start();
+    let paid = paid_at(task.pay, start, t);
+    if paid == 0 {
+        return;
+    }
+    pay_sets(work, paid, task.form.at(t));
+}

@@ -1,0 +1,123 @@
+// The parts of an annuity: what one coefficient of one segment is worth.
+ghost use Rattle.std.specs.Prelude.{◌≡◌, ◌≢◌, suc, ◌+◌, ◌-◌, ◌*◌, ◌^◌, ◌<◌, ◌≤◌, length, pos, neg_ℤ};
+ghost use Rattle.halo_sums.specs.Masks.{bits};
+ghost use Rattle.halo_num.specs.Ends.{HasWidth, IsWithin, fine};
+ghost use Rattle.halo_num.specs.Enclosure.{Encloses};
+ghost use Rattle.halo_status.specs.declared.pay.Kind.TheVariants.{Insurance};
+ghost use Rattle.halo_status.specs.Pay.{pay_of};
+ghost use Rattle.halo_model.specs.Counts.{measures_of, most_worth, width_count};
+ghost use Rattle.halo_model.specs.Order.{Ties};
+ghost use Rattle.halo_model.specs.Premium.{all_lives};
+ghost use Rattle.halo_model.specs.RunPart.{run_part};
+ghost use Rattle.halo_model.specs.Value.{denominator};
+ghost use Rattle.halo_compile.specs.Form.{IsInForm, run_of, segment_at};
+ghost use Rattle.halo_compile.specs.ValidTask.{IsTask};
+ghost use Rattle.halo_annuity.specs.Pass.{basis_of_task, pay_of_task};
+ghost use Rattle.halo_annuity.specs.RunWorth.{EnclosesRun};
+
+use crate::carry::carried;
+use crate::one_set::year;
+use crate::payment::paid_at;
+use crate::sets::{above_zero, below_zero, ones};
+use halo_compile::{Form, Segment, Task};
+use halo_num::{Ival, Steps};
+use std::sync::ledger::Ledger;
+
+/// What the coefficient of a set of lives in one segment of the form adds to the value of an annuity of
+/// 1 at time 0 with all lives alive, whatever the time of the task's group and the lives alive then.
+///
+/// It is no wider than the count of the annuity, and in size at most the weight of the form times the
+/// most that the annuity can be worth; it may be below 0. The counter is raised by at most
+/// (N + 2) H for a horizon of H years.
+pub fn term_value<const N: usize, const M: usize, L: Ledger>(
+    task: &Task<N, M>,
+    segment: usize,
+    set: u16,
+    steps: &mut Steps<L>,
+) -> Ival
+    requires task { IsTask task.now }
+    requires annuity { task.now.pay.now.kind ≢ Insurance }
+    requires segment { segment < length task.now.form.now }
+    requires set { set < M }
+    ensures encloses { (ties : Ties) → Encloses result
+        (run_part (basis_of_task task.now ties) (pay_of_task task.now) (run_of (segment_at task.now.form.now segment)) (bits N set))
+        (denominator (basis_of_task task.now ties) 0 all_lives) }
+    ensures narrow { (ties : Ties) → HasWidth result (width_count (measures_of (basis_of_task task.now ties) (pay_of_task task.now))) }
+    ensures sized { (ties : Ties) →
+        let measures = measures_of (basis_of_task task.now ties) (pay_of_task task.now) in
+        let most = measures.weight * most_worth task.now.pay.now.kind measures * fine in
+        IsWithin result (neg_ℤ (pos most)) (pos most) }
+    ensures cost { steps.new ≤ steps.old + (N + 2) * task.now.horizon }
+{
+    // The proof sees here that each year has a fraction, and that the lives have rows.
+    let _fractions = task.interest.fractions();
+    let _start = task.group.start();
+    let run = segment_of(task.form, segment);
+    let coefficient = run.poly.coefficient(set);
+    let below = below_zero(coefficient);
+    let times = above_zero(coefficient) + below;
+    let worth = paid_in_run(task, run.from, run.to, times, set, steps);
+    if below > 0 {
+        Ival::exact(0).sub(worth)
+    } else {
+        worth
+    }
+}
+
+// The segment at a place.
+fn segment_of<const M: usize>(form: &Form<M>, place: usize) -> &Segment<M>
+    requires { place < length form.now }
+    ensures { result.now ≡ segment_at form.now place }
+{
+    &form.segments()[place]
+}
+
+// What so many times the payments of an annuity at the times `from` to `to` are worth at time 0, each
+// made if all lives of a set are alive then.
+fn paid_in_run<const N: usize, const M: usize, L: Ledger>(
+    task: &Task<N, M>,
+    from: u16,
+    to: u16,
+    times: u64,
+    set: u16,
+    steps: &mut Steps<L>,
+) -> Ival
+    requires task { IsTask task.now }
+    requires run { IsInForm (pay_of task.now.pay.now) task.now.horizon (record { first = from; last = to }) }
+    requires times { times ≤ 2 ^ 11 }
+    ensures worth { EnclosesRun task.now (record { first = from; last = to }) times set 0 (suc to) result }
+    ensures cost { steps.new ≤ steps.old + (N + 2) * to }
+{
+    let mut value = ones(paid_at(task.pay, 0, to), times);
+    for back in 0..to {
+        value = paid_from(task, from, to, times, set, to - back - 1, value, steps);
+    }
+    value
+}
+
+// The same at time `t` of the payments from then on, by those after it.
+fn paid_from<const N: usize, const M: usize, L: Ledger>(
+    task: &Task<N, M>,
+    from: u16,
+    to: u16,
+    times: u64,
+    set: u16,
+    t: u16,
+    later: Ival,
+    steps: &mut Steps<L>,
+) -> Ival
+    requires task { IsTask task.now }
+    requires run { IsInForm (pay_of task.now.pay.now) task.now.horizon (record { first = from; last = to }) }
+    requires times { times ≤ 2 ^ 11 }
+    requires time { t < to }
+    requires later { EnclosesRun task.now (record { first = from; last = to }) times set (suc t) (to - t) later }
+    ensures worth { EnclosesRun task.now (record { first = from; last = to }) times set t (suc (to - t)) result }
+    ensures cost { steps.new ≤ steps.old + N + 2 }
+{
+    let _start = task.group.start();
+    let value = carried(later, year(task, set, t, steps), steps);
+    if t < from {
+        return value;
+    }
+    value.add(ones(paid_at(task.pay, 0, t), times))
+}
