@@ -1,0 +1,12 @@
+pub mod Payments
+pub mod YearChances
+pub mod OneMoreLife
+pub mod OneSet
+pub mod Silent
+pub mod Counted
+pub mod Declared
+pub mod Signs
+pub mod Horizon
+pub mod Total
+pub mod FormDues
+pub mod Groups
