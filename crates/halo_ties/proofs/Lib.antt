@@ -1,0 +1,5 @@
+mod Subsets
+mod Steps
+mod Means
+mod Sums
+mod MeanSteps
