@@ -1,0 +1,5 @@
+mod Multiples
+mod Discounted
+mod OneByOne
+mod Sums
+mod Towers

@@ -1,0 +1,246 @@
+// The columns of a table, and the entries of an age in them.
+ghost use Rattle.std.specs.Prelude.{◌≡◌, ◌≤◌, ◌<◌, ◌+◌, ◌*◌, ◌^◌, ℕ, IfOk, get_or, length};
+ghost use Rattle.halo_interest.specs.Powers.{ArePowers};
+ghost use Rattle.halo_interest.specs.Rates.{rate_of};
+ghost use Rattle.halo_columns.specs.Entries.{AreEntries, IsKnown, columns_of, counted, counted_width, zero_entry};
+ghost use Rattle.halo_columns.specs.Set.{EnclosesColumns, entry_at, of_cause};
+ghost use Rattle.halo_columns.specs.Summed.{AreSummedByCause, IsSummedOnce, IsSummedTwice};
+
+use crate::Memory;
+use crate::column::{column, running_sums};
+use crate::entry::Counted;
+use halo_interest::{Interest, Powers};
+use halo_num::{Ival, Steps};
+use halo_table::Tables;
+use std::alloc::Global;
+use std::marker::Model;
+use std::sync::ledger::Ledger;
+
+/// A column, its sums, and the sums of these.
+#[derive(Drop)]
+struct SummedTwice {
+    lives: Vec<Ival>,
+    sums: Vec<Ival>,
+    sums_of_sums: Vec<Ival>,
+}
+
+impl Model for SummedTwice {
+    ghost use Rattle.halo_columns.specs.Set.{SummedTwice};
+
+    ghost Value = { SummedTwice };
+
+    ghost view = { λ t. record { lives = t.lives.items; sums = t.sums.items; sums_of_sums = t.sums_of_sums.items } };
+}
+
+/// A column and its sums.
+#[derive(Drop)]
+struct SummedOnce {
+    lives: Vec<Ival>,
+    sums: Vec<Ival>,
+}
+
+impl Model for SummedOnce {
+    ghost use Rattle.halo_columns.specs.Set.{SummedOnce};
+
+    ghost Value = { SummedOnce };
+
+    ghost view = { λ t. record { lives = t.lives.items; sums = t.sums.items } };
+}
+
+/// The commutation columns of a table, by age: D, N and S of those who are alive, C, M and R of
+/// those who leave, and C and M by cause. Each entry is an interval of fine units, 10^-18 each.
+#[derive(Drop)]
+pub struct ColumnSet {
+    last_age: u16,
+    survivors: SummedTwice,
+    leavers: SummedTwice,
+    by_cause: Vec<SummedOnce>,
+}
+
+impl Model for ColumnSet {
+    ghost use Rattle.halo_columns.specs.Set.{ColumnLists};
+
+    ghost Value = { ColumnLists };
+
+    ghost view = { λ set. record { last_age = set.last_age; survivors = set.survivors; leavers = set.leavers; by_cause = set.by_cause.items } };
+}
+
+impl ColumnSet {
+    /// D: the survivors at an age of the table, discounted from it to birth.
+    pub fn d(&self, age: u16) -> Ival
+        requires { age ≤ self.now.last_age }
+        ensures { result ≡ entry_at self.now self.now.survivors.lives age }
+    {
+        at(&self.survivors.lives, self.last_age - age)
+    }
+
+    /// N: the sum of D from an age of the table on.
+    pub fn n(&self, age: u16) -> Ival
+        requires { age ≤ self.now.last_age }
+        ensures { result ≡ entry_at self.now self.now.survivors.sums age }
+    {
+        at(&self.survivors.sums, self.last_age - age)
+    }
+
+    /// S: the sum of N from an age of the table on.
+    pub fn s(&self, age: u16) -> Ival
+        requires { age ≤ self.now.last_age }
+        ensures { result ≡ entry_at self.now self.now.survivors.sums_of_sums age }
+    {
+        at(&self.survivors.sums_of_sums, self.last_age - age)
+    }
+
+    /// C: those who leave at an age of the table, discounted from the end of the year to birth.
+    pub fn c(&self, age: u16) -> Ival
+        requires { age ≤ self.now.last_age }
+        ensures { result ≡ entry_at self.now self.now.leavers.lives age }
+    {
+        at(&self.leavers.lives, self.last_age - age)
+    }
+
+    /// M: the sum of C from an age of the table on.
+    pub fn m(&self, age: u16) -> Ival
+        requires { age ≤ self.now.last_age }
+        ensures { result ≡ entry_at self.now self.now.leavers.sums age }
+    {
+        at(&self.leavers.sums, self.last_age - age)
+    }
+
+    /// R: the sum of M from an age of the table on.
+    pub fn r(&self, age: u16) -> Ival
+        requires { age ≤ self.now.last_age }
+        ensures { result ≡ entry_at self.now self.now.leavers.sums_of_sums age }
+    {
+        at(&self.leavers.sums_of_sums, self.last_age - age)
+    }
+
+    /// C of those who leave by the cause at a place.
+    pub fn c_by(&self, age: u16, cause: u8) -> Ival
+        requires age { age ≤ self.now.last_age }
+        requires cause { cause < length self.now.by_cause }
+        ensures { result ≡ entry_at self.now (of_cause self.now cause).lives age }
+    {
+        at(
+            &self.by_cause[usize::from(cause)].lives,
+            self.last_age - age,
+        )
+    }
+
+    /// M of those who leave by the cause at a place.
+    pub fn m_by(&self, age: u16, cause: u8) -> Ival
+        requires age { age ≤ self.now.last_age }
+        requires cause { cause < length self.now.by_cause }
+        ensures { result ≡ entry_at self.now (of_cause self.now cause).sums age }
+    {
+        at(&self.by_cause[usize::from(cause)].sums, self.last_age - age)
+    }
+}
+
+// The entry of the age that is so many years younger than the last one.
+fn at(column: &[Ival], younger: u16) -> Ival
+    ensures { result ≡ get_or column.now younger zero_entry }
+{
+    match column.get(usize::from(younger)) {
+        Some(entry) => *entry,
+        None => Ival::exact(0),
+    }
+}
+
+/// The commutation columns of a table at an interest, with year k of interest from age k to age
+/// k + 1. The counter is raised by at most 200.
+pub fn columns<L: Ledger>(
+    alloc: Global,
+    tables: &Tables,
+    table: u8,
+    interest: &Interest,
+    steps: &mut Steps<L>,
+) -> Result<ColumnSet, Memory>
+    requires { table < length tables.now.tables }
+    ensures columns { IfOk result (λ set.
+        EnclosesColumns (columns_of (λ k. (rate_of interest.now k).p) (λ k. (rate_of interest.now k).q) tables.now table) set) }
+    ensures cost { steps.new ≤ steps.old + 200 }
+{
+    let powers = interest.powers(steps);
+    discounted_columns(alloc, tables, table, &powers)
+}
+
+// The columns with these discounts.
+fn discounted_columns(
+    alloc: Global,
+    tables: &Tables,
+    table: u8,
+    powers: &Powers,
+) -> Result<ColumnSet, Memory>
+    requires { table < length tables.now.tables }
+    ensures { IfOk result (λ set. (p q : ℕ → ℕ) → ArePowers q (λ k. p k + q k) 0 powers.now →
+        EnclosesColumns (columns_of p q tables.now table) set) }
+{
+    let survivors = summed_twice(alloc, tables, table, powers, Counted::Survivors)?;
+    let leavers = summed_twice(alloc, tables, table, powers, Counted::Leavers)?;
+    let by_cause = summed_by_cause(alloc, tables, table, powers)?;
+    Ok(ColumnSet {
+        last_age: tables.last_age(table),
+        survivors,
+        leavers,
+        by_cause,
+    })
+}
+
+// The column that counts these lives, summed twice.
+fn summed_twice(
+    alloc: Global,
+    tables: &Tables,
+    table: u8,
+    powers: &Powers,
+    what: Counted,
+) -> Result<SummedTwice, Memory>
+    requires table { table < length tables.now.tables }
+    requires known { IsKnown tables.now what }
+    ensures { IfOk result (λ t. (p q : ℕ → ℕ) → ArePowers q (λ k. p k + q k) 0 powers.now →
+        IsSummedTwice (columns_of p q tables.now table) what t) }
+{
+    let lives = column(alloc, tables, table, powers, what)?;
+    let sums = running_sums(alloc, &lives)?;
+    let sums_of_sums = running_sums(alloc, &sums)?;
+    Ok(SummedTwice {
+        lives,
+        sums,
+        sums_of_sums,
+    })
+}
+
+// The columns that count those who leave by each cause, summed.
+fn summed_by_cause(
+    alloc: Global,
+    tables: &Tables,
+    table: u8,
+    powers: &Powers,
+) -> Result<Vec<SummedOnce>, Memory>
+    requires { table < length tables.now.tables }
+    ensures { IfOk result (λ list. (p q : ℕ → ℕ) → ArePowers q (λ k. p k + q k) 0 powers.now →
+        AreSummedByCause (columns_of p q tables.now table) (length tables.now.causes) list.items) }
+{
+    let mut by_cause = Vec::new(alloc);
+    for cause in 0..tables.causes() {
+        by_cause.push(summed_once(alloc, tables, table, powers, cause)?)?;
+    }
+    Ok(by_cause)
+}
+
+// The column that counts those who leave by a cause, summed.
+fn summed_once(
+    alloc: Global,
+    tables: &Tables,
+    table: u8,
+    powers: &Powers,
+    cause: u8,
+) -> Result<SummedOnce, Memory>
+    requires table { table < length tables.now.tables }
+    requires known { cause < length tables.now.causes }
+    ensures { IfOk result (λ t. (p q : ℕ → ℕ) → ArePowers q (λ k. p k + q k) 0 powers.now →
+        IsSummedOnce (columns_of p q tables.now table) cause t) }
+{
+    let lives = column(alloc, tables, table, powers, Counted::LeaversBy(cause))?;
+    let sums = running_sums(alloc, &lives)?;
+    Ok(SummedOnce { lives, sums })
+}
