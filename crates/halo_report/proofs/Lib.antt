@@ -1,0 +1,3 @@
+mod PrintedEnds
+mod LineByLine
+mod PrintedColumns

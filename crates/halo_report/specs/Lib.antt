@@ -1,0 +1,5 @@
+pub mod Lines
+pub mod ValueText
+pub mod Printed
+pub mod ColumnsText
+pub mod Laws

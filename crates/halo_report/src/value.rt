@@ -1,0 +1,64 @@
+// The report of the command `value`.
+ghost use Rattle.std.specs.Prelude.{◌≡◌, ◌++◌, ◌^◌, ◌≤◌, ◌<◌, All, IfOk, IfSome, OnOk, codes, length};
+ghost use Rattle.halo_report.specs.Lines.{IsPrintable, line_text, numbered_lines};
+ghost use Rattle.halo_report.specs.ValueText.{premium_lines, report_text};
+
+use crate::Memory;
+use crate::text::{write_bytes, write_ends, write_number};
+use halo_num::Nano;
+use std::alloc::Global;
+
+/// What a contract is worth: enclosures of its pays, of all pays together, of the premium where
+/// there is one, and of its reserves, in printed units of 10^-9.
+#[derive(Drop)]
+pub struct ValueReport {
+    pub pays: Vec<Nano>,
+    pub total: Nano,
+    pub premium: Option<Nano>,
+    pub reserves: Vec<Nano>,
+}
+
+/// The lines of a value report: `pay` and its number for each pay, `total`, `premium`, and `reserve`
+/// and its number for each reserve, each with the two ends. Each end is at most 10^36 in size.
+pub fn value_text(alloc: Global, report: &ValueReport) -> Result<Vec<u8>, Memory>
+    requires pays { All IsPrintable report.now.pays.items }
+    requires total { IsPrintable report.now.total }
+    requires premium { IfSome report.now.premium IsPrintable }
+    requires reserves { All IsPrintable report.now.reserves.items }
+    ensures { IfOk result (λ text. text.items
+        ≡ report_text report.now.pays.items report.now.total report.now.premium report.now.reserves.items) }
+{
+    let mut text = Vec::new(alloc);
+    write_numbered(b"pay", &report.pays, &mut text)?;
+    write_line(b"total", report.total, &mut text)?;
+    if let Some(premium) = report.premium {
+        write_line(b"premium", premium, &mut text)?;
+    }
+    write_numbered(b"reserve", &report.reserves, &mut text)?;
+    Ok(text)
+}
+
+// Writes a line: a word and the two ends.
+fn write_line(word: &[u8], ends: Nano, into: &mut Vec<u8>) -> Result<(), Memory>
+    requires { IsPrintable ends }
+    ensures { OnOk result (into.new.items ≡ into.old.items ++ line_text word.now ends) }
+{
+    write_bytes(word, into)?;
+    write_ends(ends, into)?;
+    write_bytes(b"\n", into)
+}
+
+// Writes a line for each enclosure: a word, the number from 1 on, and the two ends.
+fn write_numbered(word: &[u8], list: &[Nano], into: &mut Vec<u8>) -> Result<(), Memory>
+    requires { All IsPrintable list.now }
+    ensures { OnOk result (into.new.items ≡ into.old.items ++ numbered_lines word.now 1 list.now) }
+{
+    for place in 0..list.len() {
+        write_bytes(word, into)?;
+        write_bytes(b" ", into)?;
+        write_number(place as u64 + 1, into)?;
+        write_ends(list[place], into)?;
+        write_bytes(b"\n", into)?;
+    }
+    Ok(())
+}
