@@ -6,12 +6,13 @@ ghost use Rattle.std.specs.Prelude.{◌≡◌, ℕ, ◌+◌, ◌*◌, ◌<◌, �
 ghost use Rattle.std.specs.List.{list_all, list_any};
 ghost use Rattle.halo_sums.specs.Masks.{has_bit};
 ghost use Rattle.halo_status.specs.Blocks.{IsInBlock, fewer_at};
-ghost use Rattle.halo_status.specs.Exists.{exists, each_exists, count_true};
+ghost use Rattle.halo_status.specs.Exists.{exists, each_exists};
+ghost use Rattle.halo_sums.specs.Sums.{count_true};
 ghost use Rattle.halo_status.specs.StatusTree.{tree_of, trees_in};
 ghost use Rattle.halo_status.specs.View.{is_on};
 
-use crate::mask::has_bit;
 use crate::{Members, Status, View};
+use halo_sums::has_bit;
 
 // The numbers of members that are told apart, from 0 on: one more than the most members of a list and
 // one above that.

@@ -7,7 +7,6 @@
 
 mod blocks;
 pub mod laws;
-mod mask;
 mod memory;
 mod pay;
 mod short_list;

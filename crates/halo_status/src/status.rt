@@ -1,5 +1,6 @@
 ghost use Rattle.std.specs.Prelude.{◌≡◌, ℕ, ◌^◌, ◌<◌, ◌↔◌, IsTrue, min};
-ghost use Rattle.halo_status.specs.Exists.{exists, each_exists, count_true};
+ghost use Rattle.halo_status.specs.Exists.{exists, each_exists};
+ghost use Rattle.halo_sums.specs.Sums.{count_true};
 ghost use Rattle.halo_sums.specs.Masks.{has_bit};
 ghost use Rattle.halo_status.specs.Naming.{names_life, any_names_life, names_term, any_names_term, NamesLivesBelow, AnyNamesLivesBelow};
 ghost use Rattle.halo_status.specs.Nodes.{nodes, nodes_in, AtEachNodeIn, IsLasting, NeverReturns, HasShortList, HasShortLists};
@@ -7,8 +8,8 @@ ghost use Rattle.halo_status.specs.ReadOnce.{standings, standings_in, IsReadOnce
 ghost use Rattle.halo_status.specs.StatusTree.{tree_of, trees_in};
 ghost use Rattle.halo_status.specs.View.{is_on};
 
-use crate::mask::has_bit;
 use crate::{ShortList, View};
+use halo_sums::has_bit;
 
 /// The members of a status, seen as the list of them: 1 to 16 statuses.
 pub type Members = ShortList<Status>;

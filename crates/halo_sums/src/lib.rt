@@ -7,3 +7,6 @@
 #![tactic(auto)]
 
 pub mod laws;
+mod mask;
+
+pub use mask::has_bit;

@@ -3,7 +3,7 @@ use Rattle.std.proofs.Common.{◌≡◌, ℕ, ◌<◌, ◌≤◌, ◌^◌, ◌/�
 use Rattle.std.proofs.Math.Nat.{div-eq_of_lt, pow-le-pow_right, lt_of_lt_of_le}
 use Rattle.std.proofs.lemmas.Bool.{le-ltb}
 use Rattle.halo_sums.specs.Masks.{has_bit}
-use Rattle.halo_status.proofs.mask.has_bit.Goals as goal
+use Rattle.halo_sums.proofs.mask.has_bit.Goals as goal
 
 has_no_bit : (mask i : ℕ) → mask < 2 ^ 16 → 16 ≤ i → has_bit mask i ≡ false
 has_no_bit mask i small high =
