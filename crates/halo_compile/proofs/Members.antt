@@ -3,7 +3,8 @@ use Rattle.std.proofs.Common.{◌≡◌, ℕ, zero, suc, ◌+◌, ◌-◌, ◌�
 use Rattle.std.proofs.lemmas.Bool.{false≢true}
 use Rattle.std.proofs.lemmas.Bool.Decides.{nat_tests}
 use Rattle.halo_status.specs.declared.status.Status.{Status}
-use Rattle.halo_status.specs.Exists.{count_true, each_exists, exists}
+use Rattle.halo_status.specs.Exists.{each_exists, exists}
+use Rattle.halo_sums.specs.Sums.{count_true}
 use Rattle.halo_status.specs.StatusTree.{tree_of, trees_in}
 use Rattle.halo_status.specs.declared.pay.Mark.{Mark}
 use Rattle.halo_model.specs.Coefficient.{waits_at_rank}

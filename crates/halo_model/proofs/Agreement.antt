@@ -3,7 +3,8 @@ use Rattle.std.proofs.Common.{◌≡◌, ℕ, refl, ap, ◌∙◌, ◌∷◌, Bo
 use Rattle.std.specs.List.{list_all, list_any}
 use Rattle.std.proofs.lemmas.Bool.Decides.{nat_tests}
 use Rattle.halo_status.specs.Tree.{Tree, Trees, life, term, joint, last, at_least, exactly, after, none, more}
-use Rattle.halo_status.specs.Exists.{count_true, each_exists, exists}
+use Rattle.halo_status.specs.Exists.{each_exists, exists}
+use Rattle.halo_sums.specs.Sums.{count_true}
 use Rattle.halo_status.specs.Naming.{any_names_life, any_names_term, names_life, names_term}
 
 pub same : (i : ℕ) → nat_eq i i ≡ true

@@ -5,10 +5,10 @@ use Rattle.std.specs.List.{list_all, list_any}
 use Rattle.std.proofs.Math.Path.{fun_ext}
 use Rattle.std.proofs.lemmas.Int.{ints}
 use Rattle.std.proofs.lemmas.Nat.{mul-le}
-use Rattle.halo_sums.specs.Sums.{indicator}
+use Rattle.halo_sums.specs.Sums.{count_true, indicator}
 use Rattle.halo_sums.proofs.Integers.{add_mul, mul_add, mul_assoc, mul_comm, mul_left_comm, sub_mul}
 use Rattle.halo_status.specs.Tree.{Tree, Trees, life, term, joint, last, at_least, exactly, after, none, more}
-use Rattle.halo_status.specs.Exists.{count_true, each_exists, exists}
+use Rattle.halo_status.specs.Exists.{each_exists, exists}
 use Rattle.halo_status.specs.Naming.{AnyNamesLivesBelow, NamesLivesBelow, any_names_life, names_life}
 use Rattle.halo_status.specs.ReadOnce.{AreReadOnce, IsReadOnce, standings, standings_in}
 use Rattle.halo_model.specs.ByTree.{weight_of, weight_of_all, weight_of_count, weight_of_none, whole_in, whole_of}

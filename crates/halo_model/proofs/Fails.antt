@@ -3,9 +3,9 @@ use Rattle.std.proofs.Common.{◌≡◌, ◌≢◌, ℕ, zero, suc, ◌+◌, ◌
 use Rattle.std.specs.Prelude.{IfSome}
 use Rattle.std.proofs.lemmas.Bool.Decides.{nat_tests}
 use Rattle.std.proofs.lemmas.Int.{ints}
-use Rattle.halo_sums.specs.Sums.{indicator}
+use Rattle.halo_sums.specs.Sums.{count_true, indicator}
 use Rattle.halo_status.specs.Tree.{Tree, Trees, life, term, joint, last, at_least, exactly, after, none, more, member_at, member_count}
-use Rattle.halo_status.specs.Exists.{IsSubset, count_true, each_exists, exists}
+use Rattle.halo_status.specs.Exists.{IsSubset, each_exists, exists}
 use Rattle.halo_status.specs.Nodes.{AtEachNodeIn, IsLasting, NeverReturns}
 use Rattle.halo_status.specs.ValidPay.{CanBeMarked}
 use Rattle.halo_status.specs.declared.pay.Mark.{Mark}

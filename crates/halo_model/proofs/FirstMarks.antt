@@ -3,11 +3,11 @@ use Rattle.std.proofs.Common.{◌≡◌, ◌≢◌, ◌⊎◌, ℕ, suc, ◌+◌
 use Rattle.std.specs.List.{list_all}
 use Rattle.std.proofs.Math.Bool.{and-false}
 use Rattle.std.proofs.lemmas.Bool.Decides.{nat_tests}
-use Rattle.halo_sums.specs.Sums.{numbers_from, sum_over}
+use Rattle.halo_sums.specs.Sums.{count_true, numbers_from, sum_over}
 use Rattle.halo_sums.proofs.Sums.{sum_over-add, sum_over-ext, sum_over-none, sum_over-scale, sum_over-swap}
 use Rattle.halo_sums.proofs.Numbers.{sum_over-numbers_next}
 use Rattle.halo_status.specs.Tree.{Tree, Trees, joint, none, more, member_at, member_count}
-use Rattle.halo_status.specs.Exists.{count_true, each_exists, exists}
+use Rattle.halo_status.specs.Exists.{each_exists, exists}
 use Rattle.halo_status.specs.Naming.{names_life, names_term}
 use Rattle.halo_status.specs.Nodes.{AtEachNodeIn, IsLasting, NeverReturns}
 use Rattle.halo_status.specs.Pay.{PlainPay}

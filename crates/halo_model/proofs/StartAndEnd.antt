@@ -4,7 +4,8 @@ use Rattle.std.specs.Prelude.{IsTrue}
 use Rattle.std.specs.List.{list_all, list_any}
 use Rattle.std.proofs.lemmas.Bool.Decides.{nat_tests}
 use Rattle.halo_status.specs.Tree.{Tree, Trees, life, term, joint, last, at_least, exactly, after, none, more, member_count}
-use Rattle.halo_status.specs.Exists.{count_true, each_exists, empty_set, exists}
+use Rattle.halo_status.specs.Exists.{each_exists, empty_set, exists}
+use Rattle.halo_sums.specs.Sums.{count_true}
 use Rattle.halo_status.specs.Naming.{NamesLivesBelow, any_names_term, names_term}
 use Rattle.halo_status.specs.Nodes.{AsksForSome, AtEachNode, AtEachNodeIn, HasPositiveRanks, HasShortList, HasShortLists, IsLasting, NeverReturns}
 use Rattle.halo_status.specs.Pay.{PlainPay}

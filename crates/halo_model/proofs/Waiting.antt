@@ -2,7 +2,8 @@
 use Rattle.std.proofs.Common.{◌≡◌, ℕ, zero, suc, ◌+◌, ◌-◌, ◌≤◌, arith, refl, ap, sym, ◌∙◌, List, ◌∷◌, length, get_or, Bool, true, false, ◌&&◌, ◌||◌, nat_eq, Option, Some, None}
 use Rattle.std.proofs.Math.Bool.{and-true}
 use Rattle.halo_status.specs.Tree.{Tree, Trees, life, term, joint, last, at_least, exactly, after, none, more, member_at, member_count}
-use Rattle.halo_status.specs.Exists.{count_true, each_exists, exists}
+use Rattle.halo_status.specs.Exists.{each_exists, exists}
+use Rattle.halo_sums.specs.Sums.{count_true}
 use Rattle.halo_status.specs.Naming.{NamesLivesBelow, any_names_life, names_life}
 use Rattle.halo_status.specs.ReadOnce.{IsReadOnce, standings, standings_in}
 use Rattle.halo_status.specs.declared.pay.Mark.{Mark}

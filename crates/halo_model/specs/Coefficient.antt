@@ -1,10 +1,10 @@
 -- The compiled form of a pay: its coefficients by inclusion and exclusion.
 use Rattle.std.specs.Prelude.{ℕ, ◌-◌, Bool, false, ◌&&◌, nat_eq, List, get_or, length, Option, Some, None, ℤ}
-use Rattle.halo_sums.specs.Sums.{indicator}
+use Rattle.halo_sums.specs.Sums.{count_true, indicator}
 use Rattle.halo_sums.specs.Sets.{in_set}
 use Rattle.halo_sums.specs.Coefficients.{coefficient}
 use Rattle.halo_status.specs.Tree.{Tree}
-use Rattle.halo_status.specs.Exists.{count_true, each_exists, exists}
+use Rattle.halo_status.specs.Exists.{each_exists, exists}
 use Rattle.halo_status.specs.View.{is_on}
 use Rattle.halo_status.specs.Pay.{PlainPay}
 use Rattle.halo_status.specs.declared.pay.Mark.{Mark}

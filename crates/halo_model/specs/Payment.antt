@@ -2,7 +2,8 @@
 use Rattle.std.specs.Prelude.{ℕ, suc, ◌+◌, ◌-◌, ◌*◌, Bool, true, false, not, ◌&&◌, nat_eq, nat_le, nat_lt, List, get_or, length, Option, Some, None}
 use Rattle.halo_sums.specs.Masks.{has_bit}
 use Rattle.halo_status.specs.Tree.{Tree, Trees, joint, none}
-use Rattle.halo_status.specs.Exists.{count_true, each_exists, exists}
+use Rattle.halo_status.specs.Exists.{each_exists, exists}
+use Rattle.halo_sums.specs.Sums.{count_true}
 use Rattle.halo_status.specs.View.{is_on}
 use Rattle.halo_status.specs.Pay.{PlainPay}
 use Rattle.halo_status.specs.declared.pay.Mark.{Mark}

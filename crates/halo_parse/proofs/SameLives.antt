@@ -3,7 +3,8 @@ use Rattle.std.proofs.Common.{◌≡◌, ◌<◌, ℕ, zero, suc, Bool, true, fa
 use Rattle.std.specs.Prelude.{IsTrue}
 use Rattle.std.specs.List.{list_all, list_any}
 use Rattle.std.proofs.lemmas.Bool.Decides.{nat_tests}
-use Rattle.halo_status.specs.Exists.{count_true, each_exists, exists}
+use Rattle.halo_status.specs.Exists.{each_exists, exists}
+use Rattle.halo_sums.specs.Sums.{count_true}
 use Rattle.halo_model.specs.Premium.{all_lives}
 use Rattle.halo_status.specs.Naming.{NamesLivesBelow, any_names_life, names_life}
 use Rattle.halo_sums.specs.Masks.{has_bit}

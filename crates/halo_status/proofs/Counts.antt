@@ -3,7 +3,8 @@ use Rattle.std.proofs.Common.{◌≡◌, ℕ, suc, ◌+◌, ◌<◌, ◌≤◌, 
 use Rattle.std.specs.List.{list_all, list_any}
 use Rattle.std.proofs.lemmas.Bool.Decides.{nat_tests}
 use Rattle.halo_status.specs.declared.status.Status.{Status}
-use Rattle.halo_status.specs.Exists.{exists, each_exists, count_true}
+use Rattle.halo_status.specs.Exists.{exists, each_exists}
+use Rattle.halo_sums.specs.Sums.{count_true}
 use Rattle.halo_status.specs.StatusTree.{tree_of, trees_in}
 use Rattle.halo_status.specs.Tree.{joint, last}
 use Rattle.halo_status.proofs.Walk.{left_at}

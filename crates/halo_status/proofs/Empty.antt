@@ -3,7 +3,8 @@ use Rattle.std.proofs.Common.{◌≡◌, ℕ, ◌≤◌, arith, refl, Bool, true
 use Rattle.std.specs.List.{list_all, list_any}
 use Rattle.std.proofs.lemmas.Bool.Decides.{nat_tests}
 use Rattle.halo_status.specs.Tree.{Tree, Trees, life, term, joint, last, at_least, exactly, after, none, more, member_count}
-use Rattle.halo_status.specs.Exists.{exists, each_exists, count_true, empty_set}
+use Rattle.halo_status.specs.Exists.{exists, each_exists, empty_set}
+use Rattle.halo_sums.specs.Sums.{count_true}
 use Rattle.halo_status.specs.Nodes.{AsksForSome, AtEachNodeIn, HasPositiveRanks, HasShortList, HasShortLists}
 
 -- none of a list is true

@@ -3,7 +3,8 @@ use Rattle.std.proofs.Common.{◌≡◌, ℕ, suc, ◌≤◌, arith, refl, List,
 use Rattle.std.specs.List.{list_all, list_any}
 use Rattle.std.proofs.lemmas.Bool.Decides.{nat_tests}
 use Rattle.halo_status.specs.Tree.{Tree, Trees, life, term, joint, last, at_least, exactly, after, none, more}
-use Rattle.halo_status.specs.Exists.{exists, each_exists, count_true, IsSubset}
+use Rattle.halo_status.specs.Exists.{exists, each_exists, IsSubset}
+use Rattle.halo_sums.specs.Sums.{count_true}
 use Rattle.halo_status.specs.Nodes.{AtEachNodeIn, IsLasting, NeverReturns}
 use Rattle.halo_status.specs.Laws.{LastingFallsOnce, LastingStaysFallen}
 use Rattle.halo_status.specs.View.{is_on}

@@ -1,5 +1,5 @@
 -- Sums and products over lists.
-use Rattle.std.specs.Prelude.{ℕ, zero, suc, ◌+◌, ◌*◌, Bool, cond, List, [], ◌∷◌, ℤ, pos, ◌+ℤ◌}
+use Rattle.std.specs.Prelude.{ℕ, zero, suc, ◌+◌, ◌*◌, Bool, true, false, cond, List, [], ◌∷◌, ℤ, pos, ◌+ℤ◌}
 
 -- the sum of f over a list
 abbrev pub sum_over : {X : Type 0} → List X → (X → ℕ) → ℕ
@@ -20,6 +20,12 @@ int_sum_over (x ∷ xs) f = f x +ℤ int_sum_over xs f
 abbrev pub numbers_from : ℕ → ℕ → List ℕ
 numbers_from first zero = []
 numbers_from first (suc count) = first ∷ numbers_from (suc first) count
+
+-- how many of a list are true
+abbrev pub count_true : List Bool → ℕ
+count_true [] = 0
+count_true (true ∷ bs) = suc (count_true bs)
+count_true (false ∷ bs) = count_true bs
 
 -- 1 where something holds, else 0
 abbrev pub indicator : Bool → ℤ

@@ -2,7 +2,8 @@
 use Rattle.std.proofs.Common.{ℕ, ◌+◌, ◌*◌, ◌<◌, ◌≤◌, Bool, arith, refl, ap, sym, ◌∙◌, ⊎_elim, nat_le}
 use Rattle.std.proofs.lemmas.Bool.{cases_lt}
 use Rattle.halo_sums.specs.Masks.{has_bit}
-use Rattle.halo_status.specs.Exists.{count_true, each_exists}
+use Rattle.halo_status.specs.Exists.{each_exists}
+use Rattle.halo_sums.specs.Sums.{count_true}
 use Rattle.halo_status.specs.StatusTree.{trees_in}
 use Rattle.halo_status.specs.View.{is_on}
 use Rattle.halo_status.proofs.InBlock.{all_more, all_seen, any_more, counted_more, first_counts, past_counts, seen_at}

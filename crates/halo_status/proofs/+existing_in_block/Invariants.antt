@@ -3,7 +3,8 @@ use Rattle.std.proofs.Common.{◌≡◌, ℕ, ◌+◌, ◌*◌, ◌<◌, ◌&&�
 use Rattle.std.specs.List.{list_all, list_any}
 use Rattle.halo_sums.specs.Masks.{has_bit}
 use Rattle.halo_status.specs.Blocks.{IsInBlock}
-use Rattle.halo_status.specs.Exists.{count_true, each_exists}
+use Rattle.halo_status.specs.Exists.{each_exists}
+use Rattle.halo_sums.specs.Sums.{count_true}
 use Rattle.halo_status.specs.StatusTree.{trees_in}
 use Rattle.halo_status.specs.View.{is_on}
 use Rattle.halo_status.proofs.+existing_in_block.Given as goal

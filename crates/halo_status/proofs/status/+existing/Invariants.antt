@@ -1,6 +1,7 @@
 -- The members that were counted and those that are left together are all that exist.
 use Rattle.std.proofs.Common.{◌≡◌, ◌+◌, drop}
-use Rattle.halo_status.specs.Exists.{count_true, each_exists}
+use Rattle.halo_status.specs.Exists.{each_exists}
+use Rattle.halo_sums.specs.Sums.{count_true}
 use Rattle.halo_sums.specs.Masks.{has_bit}
 use Rattle.halo_status.specs.StatusTree.{trees_in}
 use Rattle.halo_status.specs.View.{is_on}
