@@ -98,6 +98,7 @@ impl Interest {
     fn rate_in_force(&self, k: u16) -> Rate
         ensures value { result ≡ rate_of self.now k }
         ensures fraction { IsFraction result.p result.q }
+        ensures interest { IsInterest self.now }
     {
         let count = self.fractions() as usize;
         let mut rate = self.rate_in(0);
@@ -171,6 +172,7 @@ impl Interest {
         ensures encloses { Encloses result (pos (discount_numerator self.now k)) (discount_denominator self.now k) }
         ensures narrow { HasWidth result 1 }
         ensures within { IsWithin result (pos 0) (pos fine) }
+        ensures interest { IsInterest self.now }
     {
         let rate = self.rate_in_force(k);
         Ival::ratio(rate.q, rate.p + rate.q)
