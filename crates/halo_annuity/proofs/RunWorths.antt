@@ -27,7 +27,7 @@ use Rattle.halo_model.specs.Counts.{form_weight, greatest_factor, measures_of, m
 use Rattle.halo_model.specs.Horizon.{horizon}
 use Rattle.halo_model.specs.Premium.{all_lives}
 use Rattle.halo_model.specs.Segment.{Run, first_time, last_time_of_form}
-use Rattle.halo_model.specs.Backward.{above_zero, backward, below_zero, paid_at, without}
+use Rattle.halo_model.specs.Backward.{above_zero, backward, below_zero, outside, paid_at}
 use Rattle.halo_model.specs.RunPart.{paid_to_set, times_of}
 use Rattle.halo_model.proofs.Backward.{backward-sums}
 use Rattle.halo_compile.specs.Form.{IsInForm}
@@ -105,7 +105,7 @@ sum-ext (suc count) first f g h = omega (arith, h first (omega arith) (omega ari
 
 -- the recursion over a run is the sum over its times
 pub run-sums : (b : Basis) (pay : PlainPay) (run : Run) (times : ℕ) (s : List Bool) → run.first ≤ run.last
-    → backward b s (paid_in pay run times) 0 (suc run.last) * joint_survivors 0 (without all_lives s) b.lives ≡ times * sum_over (times_of run) (paid_to_set b pay s)
+    → backward b s (paid_in pay run times) 0 (suc run.last) * joint_survivors 0 (outside all_lives s) b.lives ≡ times * sum_over (times_of run) (paid_to_set b pay s)
 run-sums b pay run times s some =
     ap (λ (n : ℕ). n * others) (
     backward-sums b s (paid_in pay run times) (suc run.last) 0
@@ -120,7 +120,7 @@ run-sums b pay run times s some =
     ∙ sum_over-scale (times_of run) times (paid_to_set b pay s)
   where
     others : ℕ
-    others = joint_survivors 0 (without all_lives s) b.lives
+    others = joint_survivors 0 (outside all_lives s) b.lives
 
     each : ℕ → ℕ
     each u = paid_in pay run times u * (joint_survivors u (in_set s) b.lives * discounted b 0 u)

@@ -23,7 +23,7 @@ use Rattle.halo_model.specs.Horizon.{horizon, life_at}
 use Rattle.halo_model.specs.Premium.{all_lives}
 use Rattle.halo_model.specs.Segment.{Run, last_time_of_form}
 use Rattle.halo_model.specs.Value.{denominator}
-use Rattle.halo_model.specs.Backward.{above_zero, backward, below_zero, without}
+use Rattle.halo_model.specs.Backward.{above_zero, backward, below_zero, outside}
 use Rattle.halo_model.specs.RunPart.{paid_to_set, run_part, times_of}
 use Rattle.halo_model.proofs.Backward.{survivors-split}
 use Rattle.halo_model.proofs.RunParts.{lies-in-all}
@@ -105,7 +105,7 @@ module _ {n m : ℕ} (task : Task n m) (is : IsTask task) (group : IsGroup n tas
         subst (λ (age : ℕ). 0 < survivors_at task.group.now.file (life_at task.group.now.lives i).table age) (sym e) row)
 
     split : joint_survivors 0 all_lives (basis_of_task task ties).lives
-        ≡ joint_survivors 0 (in_set (bits n mask)) (basis_of_task task ties).lives * joint_survivors 0 (without all_lives (bits n mask)) (basis_of_task task ties).lives
+        ≡ joint_survivors 0 (in_set (bits n mask)) (basis_of_task task ties).lives * joint_survivors 0 (outside all_lives (bits n mask)) (basis_of_task task ties).lives
     split = survivors-split 0 all_lives (basis_of_task task ties).lives (bits n mask) (length-bits n mask ∙ sym (count-lives task.group.now ∙ group.count)) (lies-in-all (bits n mask) all_lives (λ i. refl))
 
     pub part-encloses : IsInterest task.interest.now → (worth result : Ends) → EnclosesSet (basis_of_task task ties) n (paid_in (pay_of_task task) run times) (bits n mask) 0 (suc run.last) worth
@@ -118,7 +118,7 @@ module _ {n m : ℕ} (task : Task n m) (is : IsTask task) (group : IsGroup n tas
         let s : List Bool = bits n mask in
         let num : ℕ = backward b s (paid_in (pay_of_task task) run times) 0 (suc run.last) in
         let parts : ℕ = sum_over (times_of run) (paid_to_set b (pay_of_task task) s) in
-        let others : ℕ = joint_survivors 0 (without all_lives s) b.lives in
+        let others : ℕ = joint_survivors 0 (outside all_lives s) b.lives in
         let this : ℕ = joint_survivors 0 (in_set s) b.lives in
         let orders : ℕ = length (taken b) in
         let interests = some-interest (λ k. (rate_of task.interest.now k).p) (λ k. (rate_of task.interest.now k).q) (λ k. (in_force_is task.interest.now interest k).q_from) 200 0 in

@@ -23,7 +23,7 @@ use Rattle.halo_model.specs.Counts.{form_weight, greatest_factor, measures_of, o
 use Rattle.halo_model.specs.Horizon.{horizon}
 use Rattle.halo_model.specs.Segment.{last_time_of_form}
 use Rattle.halo_model.specs.Value.{denominator, numerator}
-use Rattle.halo_model.specs.Backward.{above_zero, backward, below_zero, gain, lies_in, loss, paid_at, set_part, without}
+use Rattle.halo_model.specs.Backward.{above_zero, backward, below_zero, gain, lies_in, loss, outside, paid_at, set_part}
 use Rattle.halo_model.proofs.AfterHorizon.{nothing-after-horizon}
 use Rattle.halo_model.proofs.Backward.{annuity-by-sets, sets-ext, survivors-split}
 use Rattle.halo_life.specs.Lists.{Lists, entry, nothing}
@@ -99,11 +99,11 @@ module _ (b : Basis) (pay : PlainPay) (T n years : ℕ) (lists : Lists) (values 
       losses = backward b (bits n mask) (loss pay T (bits n mask)) T years
 
       by-case : (is : Bool) → lies_in (bits n mask) (has_bit alive) ≡ is → is_within mask alive ≡ lies_in (bits n mask) (has_bit alive)
-          → Encloses (cond (is_within mask alive) difference nothing) (cond (lies_in (bits n mask) (has_bit alive)) ((pos gains -ℤ pos losses) *ℤ pos (joint_survivors T (without (has_bit alive) (bits n mask)) b.lives)) (pos 0)) whole
+          → Encloses (cond (is_within mask alive) difference nothing) (cond (lies_in (bits n mask) (has_bit alive)) ((pos gains -ℤ pos losses) *ℤ pos (joint_survivors T (outside (has_bit alive) (bits n mask)) b.lives)) (pos 0)) whole
       by-case false lies same = rw (same, lies) (record { low = omega (arith, ints); high = omega (arith, ints) })
       by-case true lies same =
           let set : ℕ = joint_survivors T (in_set (bits n mask)) b.lives in
-          let others : ℕ = joint_survivors T (without (has_bit alive) (bits n mask)) b.lives in
+          let others : ℕ = joint_survivors T (outside (has_bit alive) (bits n mask)) b.lives in
           let split = survivors-split T (has_bit alive) b.lives (bits n mask) (length-bits n mask ∙ sym count) lies in
           let all : whole ≡ set * accumulated b T * others = rw split (omega arith) in
           let some_set : 0 < set * accumulated b T = positive-left (set * accumulated b T) others (omega (arith, some, all)) in

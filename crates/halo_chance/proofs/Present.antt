@@ -13,6 +13,7 @@ use Rattle.halo_num.proofs.Enclosures.{encloses_reduced, encloses_scaled}
 use Rattle.halo_status.specs.Tree.{Tree}
 use Rattle.halo_status.specs.View.{is_on}
 use Rattle.halo_status.specs.declared.view.View.TheVariants.{Due}
+use Rattle.halo_model.specs.EvenTies.{without}
 use Rattle.halo_model.specs.Life.{PlainLife, after_first}
 use Rattle.halo_model.specs.Outcome.{joint_survivors}
 use Rattle.halo_model.specs.Basis.{Basis, accumulated}
@@ -22,11 +23,11 @@ use Rattle.halo_model.specs.Chance.{asked, paid_on_leaving}
 use Rattle.halo_model.specs.Part.{existing_weight}
 use Rattle.halo_model.specs.ByTree.{weight_of, whole_of}
 use Rattle.halo_model.specs.Independent.{started_of, survivors_of}
-use Rattle.halo_model.specs.PartsByTree.{leavers_of, put_for, waiting, without}
+use Rattle.halo_model.specs.PartsByTree.{leavers_of, put_for, waiting}
 use Rattle.halo_model.proofs.Independent.{survivors_of-le}
 use Rattle.halo_model.proofs.Leaving.{HasYear-within}
 use Rattle.halo_model.proofs.Losses.{pay-loss-is-not-negative}
-use Rattle.halo_model.proofs.PartsByTree.{chance-on-leaving-by-tree, existing-by-tree}
+use Rattle.halo_model.proofs.PartsByTree.{chance-on-leaving-by-tree, existing-by-tree, joint-with}
 use Rattle.halo_chance.specs.Loss.{loss_of}
 use Rattle.halo_chance.specs.Present.{ExistingPresent, LeavingPresent, discount_to, discount_whole}
 
@@ -64,17 +65,6 @@ existing-present b rule pay once named T t from to S i positive e =
     (cleared i (discount_to b T t) (discount_whole b T t) (accumulated b t) (weight_of (survivors_of (λ j. t) S b.lives) (started_of T S b.lives) (is_on (view_of pay.kind) t) (waiting pay.mark pay.body)) (whole_of (started_of T S b.lives) (waiting pay.mark pay.body)) (joint_survivors T S b.lives) (existing_weight b pay T S t) positive
     (existing-by-tree b rule pay once named T t from S) e)
 
--- the joint survivors are those of one life and of the others
-joint-split : (a T : ℕ) (S : ℕ → Bool) (lives : List PlainLife) → a < length lives → IsTrue (S a) → started_of T S lives a * joint_survivors T (without a S) lives ≡ joint_survivors T S lives
-joint-split a T S [] h alive = absurd (omega arith)
-joint-split zero T S (x ∷ lives) h alive = rw alive (omega arith)
-joint-split (suc a) T S (x ∷ lives) h alive =
-    swapped (started_of T (after_first S) lives a) (cond (S 0) (x.survivors T) 1) (joint_survivors T (without a (after_first S)) lives)
-    ∙ ap (λ z. cond (S 0) (x.survivors T) 1 * z) (joint-split a T (after_first S) lives (omega arith) alive)
-  where
-    swapped : (m n k : ℕ) → m * (n * k) ≡ n * (m * k)
-    swapped m n k = omega arith
-
 pub leaving-present : LeavingPresent
 leaving-present b rule pay is once named rank T a k deferred from to marked S alive year i some positive e =
     rw (accumulated-to b T (suc k) (omega arith) to)
@@ -109,13 +99,13 @@ leaving-present b rule pay is once named rank T a k deferred from to marked S al
     falls m n h = omega (arith, ints)
 
     -- the law of the leaving, in naturals
-    law : pos whole *ℤ expected T S b.lives (λ o. indicator (paid_on_leaving pay rank T a k o)) ≡ pos (leavers * (loss * joint_survivors T (without a S) b.lives))
+    law : pos whole *ℤ expected T S b.lives (λ o. indicator (paid_on_leaving pay rank T a k o)) ≡ pos (leavers * (loss * joint_survivors T (without S a) b.lives))
     law = chance-on-leaving-by-tree pay is once rank T a k deferred from marked S alive b.lives rule year named
-        ∙ ap (λ z. pos leavers *ℤ (z *ℤ pos (joint_survivors T (without a S) b.lives))) (falls _ _ not-negative)
+        ∙ ap (λ z. pos leavers *ℤ (z *ℤ pos (joint_survivors T (without S a) b.lives))) (falls _ _ not-negative)
 
     gathered : (m l f j : ℕ) → m * (l * (f * j)) ≡ l * f * (m * j)
     gathered m l f j = omega arith
 
     share : pos (started a * whole) *ℤ expected T S b.lives (λ o. indicator (paid_on_leaving pay rank T a k o)) ≡ pos (leavers * loss) *ℤ pos (joint_survivors T S b.lives)
     share = mul_assoc (pos (started a)) (pos whole) _ ∙ ap (λ z. pos (started a) *ℤ z) law
-        ∙ ap pos (gathered (started a) leavers loss (joint_survivors T (without a S) b.lives) ∙ ap (λ z. leavers * loss * z) (joint-split a T S b.lives (HasYear-within a k b.lives year) alive))
+        ∙ ap pos (gathered (started a) leavers loss (joint_survivors T (without S a) b.lives) ∙ ap (λ z. leavers * loss * z) (joint-with a T S b.lives (HasYear-within a k b.lives year) alive))

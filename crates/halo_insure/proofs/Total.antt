@@ -16,12 +16,12 @@ use Rattle.halo_model.specs.Life.{AreLives, PlainLife}
 use Rattle.halo_model.specs.Order.{orders_taken, rank_in}
 use Rattle.halo_model.specs.Outcome.{joint_survivors}
 use Rattle.halo_model.specs.SetLaws.{StopLeaving}
-use Rattle.halo_model.specs.SetValue.{SomeEvents, all_events, outside, set_value}
+use Rattle.halo_model.specs.SetValue.{SomeEvents, all_events, set_value}
 use Rattle.halo_model.specs.Value.{denominator, numerator}
 use Rattle.halo_model.proofs.Apart.{LiesIn, LiesIn-length}
 use Rattle.halo_model.proofs.InsuranceBySets.{insurance-by-sets}
 use Rattle.halo_insure.specs.declared.year_back.Due.{Due}
-use Rattle.halo_model.specs.Backward.{above_zero, below_zero}
+use Rattle.halo_model.specs.Backward.{above_zero, below_zero, outside}
 use Rattle.halo_insure.specs.Dues.{AreCounted, AreDues, due_in_all}
 use Rattle.halo_insure.specs.OneSet.{most_due}
 use Rattle.halo_insure.specs.Total.{EnclosesSets, SetsEncloseValue, total_of}
@@ -30,7 +30,7 @@ use Rattle.halo_insure.proofs.Horizon.{nothing-is-due-after}
 use Rattle.halo_insure.proofs.Signs.{set-value-is-worth}
 
 -- the survivors of a set and of the others alive are those of all alive
-joint-split : (T : ℕ) (lives : List PlainLife) (u s : List Bool) → length u ≡ length lives → LiesIn u s → joint_survivors T (in_set s) lives * joint_survivors T (outside u s) lives ≡ joint_survivors T (in_set u) lives
+joint-split : (T : ℕ) (lives : List PlainLife) (u s : List Bool) → length u ≡ length lives → LiesIn u s → joint_survivors T (in_set s) lives * joint_survivors T (outside (in_set u) s) lives ≡ joint_survivors T (in_set u) lives
 joint-split T [] u s len lies = refl
 joint-split T (x ∷ lives) [] s len lies = absurd (omega (arith, len))
 joint-split T (x ∷ lives) (true ∷ u) [] len lies = absurd lies
@@ -91,20 +91,20 @@ module _ (b : Basis) (rule : AreLives b.lives) (stop : StopLeaving b.lives) (pay
   abbrev both : List Bool → Ends
   both s = record { lo = (plus s).lo -ℤ (minus s).hi; hi = (plus s).hi -ℤ (minus s).lo }
 
-  set-encloses : (s : List Bool) → LiesIn alive s → Encloses (both s) (value s *ℤ pos (joint_survivors T (outside alive s) b.lives)) (joint_survivors T (in_set alive) b.lives * accumulated b T)
+  set-encloses : (s : List Bool) → LiesIn alive s → Encloses (both s) (value s *ℤ pos (joint_survivors T (outside (in_set alive) s) b.lives)) (joint_survivors T (in_set alive) b.lives * accumulated b T)
   set-encloses s lies =
       let long : length s ≡ length b.lives = LiesIn-length alive s lies ∙ len in
       let p = plus_is s long in
       let m = minus_is s long in
       let e = set-value-is-worth b rule stop pay is events T started in_time s counted long count marks (nothing-is-due-after b rule pay is s long) p.0 m.0 p.1 m.1 in
       let split = joint-split T b.lives alive s len lies in
-      encloses_at (both s) (value s) (value s *ℤ pos (joint_survivors T (outside alive s) b.lives)) (joint_survivors T (in_set s) b.lives * accumulated b T) (joint_survivors T (in_set alive) b.lives * accumulated b T) (joint_survivors T (outside alive s) b.lives)
+      encloses_at (both s) (value s) (value s *ℤ pos (joint_survivors T (outside (in_set alive) s) b.lives)) (joint_survivors T (in_set s) b.lives * accumulated b T) (joint_survivors T (in_set alive) b.lives * accumulated b T) (joint_survivors T (outside (in_set alive) s) b.lives)
       (rw e (encloses_sub (plus s) (minus s) (both s) _ _ (joint_survivors T (in_set s) b.lives * accumulated b T) refl refl p.2.encloses m.2.encloses))
       refl
       (rw (← split) (omega arith))
 
-  pub all-enclose : Encloses (total_of (subsets alive) plus minus) (int_sum_over (subsets alive) (λ s. value s *ℤ pos (joint_survivors T (outside alive s) b.lives))) (joint_survivors T (in_set alive) b.lives * accumulated b T)
-  all-enclose = encloses-sum alive (λ s. (plus s).lo -ℤ (minus s).hi) (λ s. (plus s).hi -ℤ (minus s).lo) (λ s. value s *ℤ pos (joint_survivors T (outside alive s) b.lives)) (joint_survivors T (in_set alive) b.lives * accumulated b T) set-encloses
+  pub all-enclose : Encloses (total_of (subsets alive) plus minus) (int_sum_over (subsets alive) (λ s. value s *ℤ pos (joint_survivors T (outside (in_set alive) s) b.lives))) (joint_survivors T (in_set alive) b.lives * accumulated b T)
+  all-enclose = encloses-sum alive (λ s. (plus s).lo -ℤ (minus s).hi) (λ s. (plus s).hi -ℤ (minus s).lo) (λ s. value s *ℤ pos (joint_survivors T (outside (in_set alive) s) b.lives)) (joint_survivors T (in_set alive) b.lives * accumulated b T) set-encloses
 
   abbrev wide : List Bool → ℕ
   wide s = (horizon b.lives pay.body - T) * ((3 * size_of s + 3) * due_in_all pay events (horizon b.lives pay.body) s T (horizon b.lives pay.body - T))
@@ -125,7 +125,7 @@ module _ (b : Basis) (rule : AreLives b.lives) (stop : StopLeaving b.lives) (pay
 pub sets-enclose-value : SetsEncloseValue
 unfolding denominator
 sets-enclose-value b ties rule stop end pay is one T started in_time counted count marks plus minus plus_is minus_is alive len =
-    let f : List ℕ → ℤ = λ order. int_sum_over (subsets alive) (λ s. set_value b pay all_events (rank_in order) T s *ℤ pos (joint_survivors T (outside alive s) b.lives)) in
+    let f : List ℕ → ℤ = λ order. int_sum_over (subsets alive) (λ s. set_value b pay all_events (rank_in order) T s *ℤ pos (joint_survivors T (outside (in_set alive) s) b.lives)) in
     let declared : orders_taken b.ties (length b.lives) ≡ numbers_from 0 (length b.lives) ∷ [] = ap (λ t. orders_taken t (length b.lives)) ties in
     let one_order : length (orders_taken b.ties (length b.lives)) ≡ 1 = ap length declared in
     let whole : pos (numerator b pay T (in_set alive)) ≡ f (numbers_from 0 (length b.lives)) *ℤ pos 1 = insurance-by-sets b rule stop end pay is T alive len ∙ ap (λ orders. int_sum_over orders f) declared ∙ once (f (numbers_from 0 (length b.lives))) in

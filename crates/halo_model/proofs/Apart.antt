@@ -7,10 +7,10 @@ use Rattle.halo_sums.specs.Sets.{in_set, sets, subsets}
 use Rattle.halo_sums.proofs.Integers.{mul_assoc, mul_left_comm, pos_mul}
 use Rattle.halo_sums.proofs.IntSums.{int_sum_over-ext, int_sum_over-none}
 use Rattle.halo_sums.proofs.Sets.{int_sum_over-sets, int_sum_over-subsets_with, int_sum_over-subsets_without}
+use Rattle.halo_model.specs.Backward.{outside}
 use Rattle.halo_model.specs.Life.{PlainLife, after_first, leavers_by}
 use Rattle.halo_model.specs.Outcome.{joint_survivors}
 use Rattle.halo_model.specs.Expectation.{all_there, all_there_at_leaving, survivors_if, whole_if}
-use Rattle.halo_model.specs.SetValue.{outside}
 
 -- the second set has a number that the first lacks
 abbrev pub GoesBeyond : List Bool → List Bool → Type 0
@@ -124,29 +124,29 @@ none-leave x y n = no-times x ∙ sym (ap (λ z. z *ℤ n) (no-times y) ∙ no-t
 module _ (T k : ℕ) where
   -- the lives of a set apart from the others that are alive at T
   pub apart-there : (times : ℕ → ℕ) (lives : List PlainLife) (u s : List Bool) → length u ≡ length lives → LiesIn u s
-      → all_there times T (in_set u) lives s ≡ all_there times k (in_set s) lives s *ℤ pos (joint_survivors T (outside u s) lives)
+      → all_there times T (in_set u) lives s ≡ all_there times k (in_set s) lives s *ℤ pos (joint_survivors T (outside (in_set u) s) lives)
   apart-there times [] u s len lies = refl
   apart-there times (x ∷ lives) [] s len lies = absurd (omega (arith, len))
   apart-there times (x ∷ lives) (true ∷ u) [] len lies = absurd lies
   apart-there times (x ∷ lives) (false ∷ u) [] len lies = absurd lies
   apart-there times (x ∷ lives) (false ∷ u) (true ∷ s) len lies = absurd lies
-  apart-there times (x ∷ lives) (true ∷ u) (true ∷ s) len lies = both-sides (pos (x.survivors (times 0))) _ _ (joint_survivors T (outside u s) lives) _ refl (apart-there (after_first times) lives u s (omega (arith, len)) lies)
-  apart-there times (x ∷ lives) (true ∷ u) (false ∷ s) len lies = second-side (x.survivors T) (joint_survivors T (outside u s) lives) _ _ _ refl (apart-there (after_first times) lives u s (omega (arith, len)) lies)
-  apart-there times (x ∷ lives) (false ∷ u) (false ∷ s) len lies = both-sides (pos 1) _ _ (joint_survivors T (outside u s) lives) _ refl (apart-there (after_first times) lives u s (omega (arith, len)) lies)
+  apart-there times (x ∷ lives) (true ∷ u) (true ∷ s) len lies = both-sides (pos (x.survivors (times 0))) _ _ (joint_survivors T (outside (in_set u) s) lives) _ refl (apart-there (after_first times) lives u s (omega (arith, len)) lies)
+  apart-there times (x ∷ lives) (true ∷ u) (false ∷ s) len lies = second-side (x.survivors T) (joint_survivors T (outside (in_set u) s) lives) _ _ _ refl (apart-there (after_first times) lives u s (omega (arith, len)) lies)
+  apart-there times (x ∷ lives) (false ∷ u) (false ∷ s) len lies = both-sides (pos 1) _ _ (joint_survivors T (outside (in_set u) s) lives) _ refl (apart-there (after_first times) lives u s (omega (arith, len)) lies)
 
   pub apart-leaving : (a : ℕ) (causes : ℕ → Bool) (year : ℕ) (times : ℕ → ℕ) (lives : List PlainLife) (u s : List Bool) → length u ≡ length lives → LiesIn u s
-      → all_there_at_leaving a causes year times T (in_set u) lives s ≡ all_there_at_leaving a causes year times k (in_set s) lives s *ℤ pos (joint_survivors T (outside u s) lives)
+      → all_there_at_leaving a causes year times T (in_set u) lives s ≡ all_there_at_leaving a causes year times k (in_set s) lives s *ℤ pos (joint_survivors T (outside (in_set u) s) lives)
   apart-leaving a causes year times [] u s len lies = refl
   apart-leaving a causes year times (x ∷ lives) [] s len lies = absurd (omega (arith, len))
   apart-leaving a causes year times (x ∷ lives) (true ∷ u) [] len lies = absurd lies
   apart-leaving a causes year times (x ∷ lives) (false ∷ u) [] len lies = absurd lies
   apart-leaving a causes year times (x ∷ lives) (false ∷ u) (true ∷ s) len lies = absurd lies
-  apart-leaving zero causes year times (x ∷ lives) (true ∷ u) (true ∷ s) len lies = both-sides (pos (leavers_by causes x year)) _ _ (joint_survivors T (outside u s) lives) _ refl (apart-there (after_first times) lives u s (omega (arith, len)) lies)
-  apart-leaving zero causes year times (x ∷ lives) (true ∷ u) (false ∷ s) len lies = none-leave (all_there (after_first times) T (in_set u) lives s) (all_there (after_first times) k (in_set s) lives s) (pos (joint_survivors T (outside (true ∷ u) (false ∷ s)) (x ∷ lives)))
-  apart-leaving zero causes year times (x ∷ lives) (false ∷ u) (false ∷ s) len lies = none-leave (all_there (after_first times) T (in_set u) lives s) (all_there (after_first times) k (in_set s) lives s) (pos (joint_survivors T (outside (false ∷ u) (false ∷ s)) (x ∷ lives)))
-  apart-leaving (suc a) causes year times (x ∷ lives) (true ∷ u) (true ∷ s) len lies = both-sides (pos (x.survivors (times 0))) _ _ (joint_survivors T (outside u s) lives) _ refl (apart-leaving a causes year (after_first times) lives u s (omega (arith, len)) lies)
-  apart-leaving (suc a) causes year times (x ∷ lives) (true ∷ u) (false ∷ s) len lies = second-side (x.survivors T) (joint_survivors T (outside u s) lives) _ _ _ refl (apart-leaving a causes year (after_first times) lives u s (omega (arith, len)) lies)
-  apart-leaving (suc a) causes year times (x ∷ lives) (false ∷ u) (false ∷ s) len lies = both-sides (pos 1) _ _ (joint_survivors T (outside u s) lives) _ refl (apart-leaving a causes year (after_first times) lives u s (omega (arith, len)) lies)
+  apart-leaving zero causes year times (x ∷ lives) (true ∷ u) (true ∷ s) len lies = both-sides (pos (leavers_by causes x year)) _ _ (joint_survivors T (outside (in_set u) s) lives) _ refl (apart-there (after_first times) lives u s (omega (arith, len)) lies)
+  apart-leaving zero causes year times (x ∷ lives) (true ∷ u) (false ∷ s) len lies = none-leave (all_there (after_first times) T (in_set u) lives s) (all_there (after_first times) k (in_set s) lives s) (pos (joint_survivors T (outside (in_set (true ∷ u)) (false ∷ s)) (x ∷ lives)))
+  apart-leaving zero causes year times (x ∷ lives) (false ∷ u) (false ∷ s) len lies = none-leave (all_there (after_first times) T (in_set u) lives s) (all_there (after_first times) k (in_set s) lives s) (pos (joint_survivors T (outside (in_set (false ∷ u)) (false ∷ s)) (x ∷ lives)))
+  apart-leaving (suc a) causes year times (x ∷ lives) (true ∷ u) (true ∷ s) len lies = both-sides (pos (x.survivors (times 0))) _ _ (joint_survivors T (outside (in_set u) s) lives) _ refl (apart-leaving a causes year (after_first times) lives u s (omega (arith, len)) lies)
+  apart-leaving (suc a) causes year times (x ∷ lives) (true ∷ u) (false ∷ s) len lies = second-side (x.survivors T) (joint_survivors T (outside (in_set u) s) lives) _ _ _ refl (apart-leaving a causes year (after_first times) lives u s (omega (arith, len)) lies)
+  apart-leaving (suc a) causes year times (x ∷ lives) (false ∷ u) (false ∷ s) len lies = both-sides (pos 1) _ _ (joint_survivors T (outside (in_set u) s) lives) _ refl (apart-leaving a causes year (after_first times) lives u s (omega (arith, len)) lies)
 
 -- nothing falls on the leaving of a life that is not alive at the start
 pub absent-leaving : (a : ℕ) (causes : ℕ → Bool) (k : ℕ) (times : ℕ → ℕ) (T : ℕ) (S : ℕ → Bool) (lives : List PlainLife) (u s : List Bool) → length u ≡ length lives → a < length lives → in_set u a ≡ false → LiesIn u s

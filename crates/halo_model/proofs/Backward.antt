@@ -20,7 +20,7 @@ use Rattle.halo_model.specs.Coefficient.{form}
 use Rattle.halo_model.specs.Expectation.{all_there}
 use Rattle.halo_model.specs.Part.{due_part, existing_weight, immediate_part}
 use Rattle.halo_model.specs.Value.{numerator}
-use Rattle.halo_model.specs.Backward.{AnnuityBySets, above_zero, backward, below_zero, gain, lies_in, loss, may_pay, set_part, without, years_passed}
+use Rattle.halo_model.specs.Backward.{AnnuityBySets, above_zero, backward, below_zero, gain, lies_in, loss, may_pay, outside, set_part, years_passed}
 use Rattle.halo_model.proofs.Annuities.{due-by-parts, immediate-by-parts}
 
 -- equal at each set of n numbers, equal in sum
@@ -51,15 +51,15 @@ not-of-it false = refl
 
 -- the weight with which at least the lives of a set are there: those of the set at t, the others of U at T, and none of the set is missing in U
 pub all-there : (t T : ℕ) (U : ℕ → Bool) (lives : List PlainLife) (s : List Bool) → length s ≡ length lives
-    → all_there (λ i. t) T U lives s ≡ cond (lies_in s U) (pos (joint_survivors t (in_set s) lives * joint_survivors T (without U s) lives)) (pos 0)
+    → all_there (λ i. t) T U lives s ≡ cond (lies_in s U) (pos (joint_survivors t (in_set s) lives * joint_survivors T (outside U s) lives)) (pos 0)
 all-there t T U [] [] e = refl
 all-there t T U [] (b ∷ s) e = absurd (omega arith)
 all-there t T U (x ∷ lives) [] e = absurd (omega arith)
 all-there t T U (x ∷ lives) (true ∷ s) e =
-    with-life (U 0) (lies_in s (after_first U)) (x.survivors t) (joint_survivors t (in_set s) lives) (joint_survivors T (without (after_first U) s) lives) _ (all-there t T (after_first U) lives s (omega arith))
-    ∙ ap (λ b. cond (U 0 && lies_in s (after_first U)) (pos (x.survivors t * joint_survivors t (in_set s) lives * (cond b (x.survivors T) 1 * joint_survivors T (without (after_first U) s) lives))) (pos 0)) (sym (not-of-it (U 0)))
+    with-life (U 0) (lies_in s (after_first U)) (x.survivors t) (joint_survivors t (in_set s) lives) (joint_survivors T (outside (after_first U) s) lives) _ (all-there t T (after_first U) lives s (omega arith))
+    ∙ ap (λ b. cond (U 0 && lies_in s (after_first U)) (pos (x.survivors t * joint_survivors t (in_set s) lives * (cond b (x.survivors T) 1 * joint_survivors T (outside (after_first U) s) lives))) (pos 0)) (sym (not-of-it (U 0)))
 all-there t T U (x ∷ lives) (false ∷ s) e =
-    other-life (U 0) (lies_in s (after_first U)) (x.survivors T) (joint_survivors t (in_set s) lives) (joint_survivors T (without (after_first U) s) lives) _ (all-there t T (after_first U) lives s (omega arith))
+    other-life (U 0) (lies_in s (after_first U)) (x.survivors T) (joint_survivors t (in_set s) lives) (joint_survivors T (outside (after_first U) s) lives) _ (all-there t T (after_first U) lives s (omega arith))
 
 -- the survivors with one life more of the set, and with one that is not of it
 split-with : (alive within : Bool) (l a o rest : ℕ) → (within ≡ true → rest ≡ a * o) → (alive && within) ≡ true → cond alive l 1 * rest ≡ l * a * (cond (alive && not true) l 1 * o)
@@ -73,19 +73,14 @@ split-other false l a o rest e = rw e (omega arith)
 
 -- the survivors of U are those of a set in it times those of the others
 pub survivors-split : (T : ℕ) (U : ℕ → Bool) (lives : List PlainLife) (s : List Bool) → length s ≡ length lives → lies_in s U ≡ true
-    → joint_survivors T U lives ≡ joint_survivors T (in_set s) lives * joint_survivors T (without U s) lives
+    → joint_survivors T U lives ≡ joint_survivors T (in_set s) lives * joint_survivors T (outside U s) lives
 survivors-split T U [] [] e h = refl
 survivors-split T U [] (b ∷ s) e h = absurd (omega arith)
 survivors-split T U (x ∷ lives) [] e h = absurd (omega arith)
 survivors-split T U (x ∷ lives) (true ∷ s) e h =
-    split-with (U 0) (lies_in s (after_first U)) (x.survivors T) (joint_survivors T (in_set s) lives) (joint_survivors T (without (after_first U) s) lives) _ (λ k. survivors-split T (after_first U) lives s (omega arith) k) h
+    split-with (U 0) (lies_in s (after_first U)) (x.survivors T) (joint_survivors T (in_set s) lives) (joint_survivors T (outside (after_first U) s) lives) _ (λ k. survivors-split T (after_first U) lives s (omega arith) k) h
 survivors-split T U (x ∷ lives) (false ∷ s) e h =
-    split-other (U 0) (x.survivors T) (joint_survivors T (in_set s) lives) (joint_survivors T (without (after_first U) s) lives) _ (survivors-split T (after_first U) lives s (omega arith) h)
-
--- equal at each of the numbers, equal in sum
-pub sum_over-numbers_ext : (count first : ℕ) (f g : ℕ → ℕ) → ((i : ℕ) → first ≤ i → f i ≡ g i) → sum_over (numbers_from first count) f ≡ sum_over (numbers_from first count) g
-sum_over-numbers_ext zero first f g h = refl
-sum_over-numbers_ext (suc count) first f g h = omega (arith, h first (omega arith), sum_over-numbers_ext count (suc first) f g (λ i from. h i (omega arith)))
+    split-other (U 0) (x.survivors T) (joint_survivors T (in_set s) lives) (joint_survivors T (outside (after_first U) s) lives) _ (survivors-split T (after_first U) lives s (omega arith) h)
 
 -- sums of multiples, at each of the numbers
 sum_over-numbers_scale : (count first c : ℕ) (f g : ℕ → ℕ) → ((i : ℕ) → first ≤ i → f i ≡ c * g i) → sum_over (numbers_from first count) f ≡ c * sum_over (numbers_from first count) g
@@ -171,11 +166,11 @@ module _ (b : Basis) (pay : PlainPay) (T : ℕ) (U : ℕ → Bool) where
 
   -- a set that lies in U, over the times from T on
   cell-within : (s : List Bool) → length s ≡ length b.lives → lies_in s U ≡ true → (t : ℕ)
-      → cell t s ≡ (pos (gain pay T s t * (joint_survivors t (in_set s) b.lives * discounted b T t)) -ℤ pos (loss pay T s t * (joint_survivors t (in_set s) b.lives * discounted b T t))) *ℤ pos (joint_survivors T (without U s) b.lives)
+      → cell t s ≡ (pos (gain pay T s t * (joint_survivors t (in_set s) b.lives * discounted b T t)) -ℤ pos (loss pay T s t * (joint_survivors t (in_set s) b.lives * discounted b T t))) *ℤ pos (joint_survivors T (outside U s) b.lives)
   cell-within s long within t =
       ap (λ w. cond may (pos (payment pay passed * discounted b T t) *ℤ (form pay t s *ℤ w)) (pos 0))
-      (all-there t T U b.lives s long ∙ ap (λ h. cond h (pos (joint_survivors t (in_set s) b.lives * joint_survivors T (without U s) b.lives)) (pos 0)) within)
-      ∙ piece may (payment pay passed) (discounted b T t) (joint_survivors t (in_set s) b.lives) (joint_survivors T (without U s) b.lives) (form pay t s)
+      (all-there t T U b.lives s long ∙ ap (λ h. cond h (pos (joint_survivors t (in_set s) b.lives * joint_survivors T (outside U s) b.lives)) (pos 0)) within)
+      ∙ piece may (payment pay passed) (discounted b T t) (joint_survivors t (in_set s) b.lives) (joint_survivors T (outside U s) b.lives) (form pay t s)
     where
       may : Bool
       may = may_pay pay.kind pay.defer T t
@@ -184,9 +179,9 @@ module _ (b : Basis) (pay : PlainPay) (T : ℕ) (U : ℕ → Bool) where
       passed = years_passed pay.kind pay.defer t
 
   cell-outside : (s : List Bool) → length s ≡ length b.lives → lies_in s U ≡ false → (t : ℕ) → cell t s ≡ pos 0
-  cell-outside s long outside t =
+  cell-outside s long apart t =
       ap (λ w. cond (may_pay pay.kind pay.defer T t) (pos (payment pay (years_passed pay.kind pay.defer t) * discounted b T t) *ℤ (form pay t s *ℤ w)) (pos 0))
-      (all-there t T U b.lives s long ∙ ap (λ h. cond h (pos (joint_survivors t (in_set s) b.lives * joint_survivors T (without U s) b.lives)) (pos 0)) outside)
+      (all-there t T U b.lives s long ∙ ap (λ h. cond h (pos (joint_survivors t (in_set s) b.lives * joint_survivors T (outside U s) b.lives)) (pos 0)) apart)
       ∙ nothing (may_pay pay.kind pay.defer T t) (pos (payment pay (years_passed pay.kind pay.defer t) * discounted b T t)) (form pay t s)
 
   cell-before : (s : List Bool) (t : ℕ) → t < T → cell t s ≡ pos 0
@@ -210,12 +205,12 @@ module _ (b : Basis) (pay : PlainPay) (T : ℕ) (U : ℕ → Bool) where
       weigh : (ℕ → ℕ) → ℕ → ℕ
       weigh paid t = paid t * (joint_survivors t (in_set s) b.lives * discounted b T t)
 
-      by-case : (h : Bool) → lies_in s U ≡ h → int_sum_over (numbers_from T years) (λ t. cell t s) ≡ cond h ((pos (backward b s (gain pay T s) T years) -ℤ pos (backward b s (loss pay T s) T years)) *ℤ pos (joint_survivors T (without U s) b.lives)) (pos 0)
+      by-case : (h : Bool) → lies_in s U ≡ h → int_sum_over (numbers_from T years) (λ t. cell t s) ≡ cond h ((pos (backward b s (gain pay T s) T years) -ℤ pos (backward b s (loss pay T s) T years)) *ℤ pos (joint_survivors T (outside U s) b.lives)) (pos 0)
       by-case false e = int_sum_over-ext (numbers_from T years) _ _ (cell-outside s long e) ∙ int_sum_over-none (numbers_from T years)
       by-case true e =
           int_sum_over-ext (numbers_from T years) _ _ (cell-within s long e)
-          ∙ int_sum_over-scale_right (numbers_from T years) (pos (joint_survivors T (without U s) b.lives)) (λ t. pos (weigh (gain pay T s) t) -ℤ pos (weigh (loss pay T s) t))
-          ∙ ap (λ z. z *ℤ pos (joint_survivors T (without U s) b.lives))
+          ∙ int_sum_over-scale_right (numbers_from T years) (pos (joint_survivors T (outside U s) b.lives)) (λ t. pos (weigh (gain pay T s) t) -ℤ pos (weigh (loss pay T s) t))
+          ∙ ap (λ z. z *ℤ pos (joint_survivors T (outside U s) b.lives))
           (int_sum_over-sub (numbers_from T years) (λ t. pos (weigh (gain pay T s) t)) (λ t. pos (weigh (loss pay T s) t))
           ∙ ap (λ z. z -ℤ int_sum_over (numbers_from T years) (λ t. pos (weigh (loss pay T s) t))) (int_sum_over-pos (numbers_from T years) (weigh (gain pay T s)) ∙ ap pos (sym (backward-sums b s (gain pay T s) years T)))
           ∙ ap (λ z. pos (backward b s (gain pay T s) T years) -ℤ z) (int_sum_over-pos (numbers_from T years) (weigh (loss pay T s)) ∙ ap pos (sym (backward-sums b s (loss pay T s) years T))))

@@ -5,6 +5,7 @@ use Rattle.std.proofs.lemmas.Bool.{cases_lt}
 use Rattle.std.proofs.lemmas.Bool.Decides.{eqb_tells, nat_tests}
 use Rattle.std.specs.List.{filter}
 use Rattle.halo_sums.specs.Sums.{numbers_from, product_over, sum_over}
+use Rattle.halo_sums.proofs.Numbers.{sum_over-numbers_ext}
 use Rattle.halo_sums.proofs.Sums.{sum_over-add, sum_over-const, sum_over-ext, sum_over-scale}
 use Rattle.halo_model.specs.Order.{orders, rank_in}
 use Rattle.halo_model.specs.EvenTies.{YearNumbers, factorial, first_leaving, first_leaving_evenly, lives_in, number_at, without}
@@ -130,11 +131,6 @@ taken-out S (suc count) first b at-b low high = ⊎_elim
         turn x y z = omega arith
     skip false e before rest = rw e rest
 
--- equal at each of the numbers, equal in sum
-pub sum_over-from_ext : (count first : ℕ) (f g : ℕ → ℕ) → ((i : ℕ) → first ≤ i → i < first + count → f i ≡ g i) → sum_over (numbers_from first count) f ≡ sum_over (numbers_from first count) g
-sum_over-from_ext zero first f g h = refl
-sum_over-from_ext (suc count) first f g h = omega (arith, h first (omega arith) (omega arith), sum_over-from_ext count (suc first) f g (λ i from to. h i (omega arith) (omega arith)))
-
 -- a sum over the lives of a set of what is at most c
 pub sum_over-kept_most : (S : ℕ → Bool) (count first : ℕ) (f : ℕ → ℕ) (c : ℕ) → ((b : ℕ) → S b ≡ true → first ≤ b → b < first + count → f b ≤ c) → sum_over (numbers_from first count) (λ b. cond (S b) (f b) 0) ≤ length (filter S (numbers_from first count)) * c
 sum_over-kept_most S zero first f c h = omega arith
@@ -155,7 +151,7 @@ each-in S (suc count) first h = each (S first) refl
   where
     others : (c : Bool) → S first ≡ c → sum_over (numbers_from (suc first) count) (λ b. cond (S b) (h b (cond c (first ∷ filter (without S b) (numbers_from (suc first) count)) (filter (without S b) (numbers_from (suc first) count)))) 0)
         ≡ sum_over (numbers_from (suc first) count) (λ b. cond (S b) (h b (filter (without S b) (first ∷ numbers_from (suc first) count))) 0)
-    others c e = sum_over-from_ext count (suc first) _ _ (λ b from to. ap (λ t. cond (S b) (h b (cond t (first ∷ filter (without S b) (numbers_from (suc first) count)) (filter (without S b) (numbers_from (suc first) count)))) 0) (sym (without-there S b first (below first b from) ∙ e)))
+    others c e = sum_over-numbers_ext count (suc first) _ _ (λ b from to. ap (λ t. cond (S b) (h b (cond t (first ∷ filter (without S b) (numbers_from (suc first) count)) (filter (without S b) (numbers_from (suc first) count)))) 0) (sym (without-there S b first (below first b from) ∙ e)))
 
     each : (c : Bool) → S first ≡ c
         → over_each (filter S (numbers_from (suc first) count)) h ≡ sum_over (numbers_from (suc first) count) (λ b. cond (S b) (h b (filter (without S b) (numbers_from (suc first) count))) 0)
@@ -188,7 +184,7 @@ sum_over-kept S (x ∷ xs) f = each (S x) (sum_over-kept S xs f)
 
 -- equal at each life of a set, equal in sum
 pub lives_in-ext : (n : ℕ) (S : ℕ → Bool) (f g : ℕ → ℕ) → ((b : ℕ) → S b ≡ true → b < n → f b ≡ g b) → sum_over (lives_in n S) f ≡ sum_over (lives_in n S) g
-lives_in-ext n S f g h = sum_over-kept S (numbers_from 0 n) f ∙ sum_over-from_ext n 0 _ _ (λ b from to. each b (omega arith) (S b) refl) ∙ sym (sum_over-kept S (numbers_from 0 n) g)
+lives_in-ext n S f g h = sum_over-kept S (numbers_from 0 n) f ∙ sum_over-numbers_ext n 0 _ _ (λ b from to. each b (omega arith) (S b) refl) ∙ sym (sum_over-kept S (numbers_from 0 n) g)
   where
     each : (b : ℕ) → b < n → (t : Bool) → S b ≡ t → cond t (f b) 0 ≡ cond t (g b) 0
     each b low true e = h b e low
@@ -267,7 +263,7 @@ module _ (n : ℕ) (y : YearNumbers) where
 
   shares : (S : ℕ → Bool) → over_each (lives_in n S) (λ b rest. sum_over (orders rest) (λ o. first_in S (b ∷ o))) ≡ sum_over (numbers_from 0 n) (λ b. cond (S b) (first_share S b) 0)
   shares S = each-in S n 0 (λ b rest. sum_over (orders rest) (λ o. first_in S (b ∷ o)))
-      ∙ sum_over-from_ext n 0 _ _ (λ b from to. one b (omega arith) (S b) refl)
+      ∙ sum_over-numbers_ext n 0 _ _ (λ b from to. one b (omega arith) (S b) refl)
     where
       one : (b : ℕ) → b < n → (c : Bool) → S b ≡ c → cond c (sum_over (orders (lives_in n (without S b))) (λ o. first_in S (b ∷ o))) 0 ≡ cond c (first_share S b) 0
       one b low true e = share-of S b e low

@@ -1,17 +1,18 @@
 -- A life in sound tables keeps the rule of a decrement table.
-use Rattle.std.proofs.Common.{◌≡◌, ℕ, zero, suc, ◌+◌, ◌-◌, ◌<◌, ◌≤◌, List, [], ◌∷◌, arith, ap, sym, ◌∙◌, get_or, length, refl}
+use Rattle.std.proofs.Common.{◌≡◌, ℕ, zero, suc, ◌+◌, ◌-◌, ◌<◌, ◌≤◌, List, [], ◌∷◌, arith, ap, sym, ◌∙◌, get_or, length, refl, ⊎_elim}
 use Rattle.std.specs.Prelude.{All, sum}
+use Rattle.std.proofs.lemmas.Bool.{cases_lt}
 use Rattle.std.proofs.lemmas.List.{get_or_past}
 use Rattle.std.proofs.lemmas.List.Elements.{All-get_or, All-head, All-tail}
 use Rattle.std.proofs.lemmas.List.Sums.{sum_by-cons}
 use Rattle.halo_sums.specs.Sums.{numbers_from, sum_over}
 use Rattle.halo_sums.proofs.Numbers.{sum_over-numbers_next}
+use Rattle.halo_sums.proofs.Sums.{sum_over-none}
 use Rattle.halo_table.specs.DecrementTable.{DecrementRow, DecrementTable, TableFile, empty_row, empty_table, first_age_of, table_of}
 use Rattle.halo_table.specs.Sound.{AreSoundRows, IsSound, IsSoundTable}
 use Rattle.halo_table.specs.declared.lives.Life.{Life}
-use Rattle.halo_model.specs.Life.{AreLives, IsLife}
+use Rattle.halo_model.specs.Life.{AreLives, IsLife, leavers_in}
 use Rattle.halo_model.specs.FromTables.{HasRow, life_of, lives_of}
-use Rattle.halo_model.specs.SetLaws.{StopLeaving}
 
 sum_over-get_or : (ns : List ℕ) → sum_over (numbers_from 0 (length ns)) (λ j. get_or ns j 0) ≡ sum ns
 sum_over-get_or [] = refl
@@ -48,15 +49,26 @@ life_of-IsLife file sound table age within from = record { falls = falls; ends =
     some : 0 < length t.rows
     some = some-rows (length file.causes) t.rows is_sound.rows
 
-    falls : (k : ℕ) → k < (life_of file table age).years_left → (life_of file table age).survivors k ≡ sum_over (numbers_from 0 (length file.causes)) ((life_of file table age).leavers k) + (life_of file table age).survivors (suc k)
-    falls k before =
+    past-rows : (k : ℕ) → (life_of file table age).years_left ≤ k → row_at t.rows (age + k - t.first_age) ≡ empty_row
+    past-rows k past = get_or_past t.rows (age + k - t.first_age) empty_row (omega (arith, some, past))
+
+    ends : (k : ℕ) → (life_of file table age).years_left ≤ k → (life_of file table age).survivors k ≡ 0
+    ends k past = rw (past-rows k past) refl
+
+    -- in the rows of the table, and after its last one
+    falls : (k : ℕ) → (life_of file table age).survivors k ≡ leavers_in (life_of file table age) k + (life_of file table age).survivors (suc k)
+    falls k = ⊎_elim
+        (λ (before : k < (life_of file table age).years_left).
         let i : ℕ = age + k - t.first_age in
         let f = rows-fall (length file.causes) t.rows is_sound.rows i (omega (arith, some, before)) in
         let next : age + suc k - t.first_age ≡ suc i = omega arith in
-        rw (next, ← f.by_cause, sum_over-get_or (row_at t.rows i).leavers) f.next
-
-    ends : (k : ℕ) → (life_of file table age).years_left ≤ k → (life_of file table age).survivors k ≡ 0
-    ends k past = rw (get_or_past t.rows (age + k - t.first_age) empty_row (omega (arith, some, past))) refl
+        rw (next, ← f.by_cause, sum_over-get_or (row_at t.rows i).leavers) f.next)
+        (λ (past : (life_of file table age).years_left ≤ k).
+        let none : leavers_in (life_of file table age) k ≡ 0 =
+        ap (λ row. sum_over (numbers_from 0 (length file.causes)) (λ j. get_or row.leavers j 0)) (past-rows k past)
+        ∙ sum_over-none (numbers_from 0 (length file.causes)) in
+        omega (arith, none, ends k past, ends (suc k) (omega arith)))
+        (cases_lt k (life_of file table age).years_left)
 
 -- the lives of a contract on sound tables keep it too
 pub lives_of-AreLives : (file : TableFile) → IsSound file → (lives : List Life) → All (λ life. HasRow file life.table life.age) lives → AreLives (lives_of file lives)
@@ -64,19 +76,3 @@ lives_of-AreLives file sound [] have_rows = tt
 lives_of-AreLives file sound (life ∷ lives) have_rows =
     let row = All-head (λ life. HasRow file life.table life.age) life lives have_rows in
     (life_of-IsLife file sound life.table life.age row.table_in row.from_first, lives_of-AreLives file sound lives (All-tail (λ life. HasRow file life.table life.age) life lives have_rows))
-
--- nobody leaves past the last row
-pub life_of-stops : (file : TableFile) → IsSound file → (table age : ℕ) → table < length file.tables → first_age_of file table ≤ age → (k j : ℕ) → (life_of file table age).years_left ≤ k → (life_of file table age).leavers k j ≡ 0
-life_of-stops file sound table age within from k j past = rw (get_or_past t.rows (age + k - t.first_age) empty_row (omega (arith, some, past))) refl
-  where
-    t : DecrementTable
-    t = table_of file table
-
-    some : 0 < length t.rows
-    some = some-rows (length file.causes) t.rows (All-get_or (IsSoundTable (length file.causes)) file.tables table empty_table within sound.tables).rows
-
-pub lives_of-StopLeaving : (file : TableFile) → IsSound file → (lives : List Life) → All (λ life. HasRow file life.table life.age) lives → StopLeaving (lives_of file lives)
-lives_of-StopLeaving file sound [] have_rows = tt
-lives_of-StopLeaving file sound (life ∷ lives) have_rows =
-    let row = All-head (λ life. HasRow file life.table life.age) life lives have_rows in
-    (life_of-stops file sound life.table life.age row.table_in row.from_first, lives_of-StopLeaving file sound lives (All-tail (λ life. HasRow file life.table life.age) life lives have_rows))

@@ -141,7 +141,7 @@ survivors-fall x rule T (suc k) = rw (one-later T k) (omega (arith, survivors-fa
     one-later n k = omega arith
 
     next : (m : ℕ) → x.survivors (suc m) ≤ x.survivors m
-    next m = ⊎_elim (λ (l : m < x.years_left). omega (arith, rule.falls m l)) (λ (l : x.years_left ≤ m). omega (arith, rule.ends (suc m) (omega arith))) (cases_lt m x.years_left)
+    next m = omega (arith, rule.falls m)
 
 pub survivors_of-le : (times : ℕ → ℕ) (T : ℕ) → ((i : ℕ) → T ≤ times i) → (S : ℕ → Bool) (lives : List PlainLife) → AreLives lives → AreChances (survivors_of times S lives) (started_of T S lives)
 survivors_of-le times T from S [] rule i = omega arith

@@ -19,7 +19,7 @@ use Rattle.halo_model.specs.Coefficient.{form}
 use Rattle.halo_model.specs.Chance.{IsValidInsurance}
 use Rattle.halo_model.specs.Part.{end_part, leaving_part, paid_for_year, terms_of}
 use Rattle.halo_model.specs.SetValue.{SomeEvents, all_events, due_for_year, end_of_term, ending_weight, failing_part, holds_of, leaving_of, leaving_weight, set_value, value_over}
-use Rattle.halo_model.specs.SetLaws.{EndBySets, InsuranceBySets, LeavingBySets, StopLeaving}
+use Rattle.halo_model.specs.SetLaws.{EndBySets, InsuranceBySets, LeavingBySets}
 use Rattle.halo_model.proofs.Insurances.{insurance-by-parts}
 use Rattle.halo_model.proofs.NoFall.{no-chance-on-end, part-unnamed}
 use Rattle.halo_model.proofs.YearBySets.{chance, end_chance, ends-of-year, leavings-of-year, lost, others}
@@ -80,18 +80,18 @@ module _ (b : Basis) where
       later : (k : ℕ) → suc T ≤ k → pos (b.q T) *ℤ (pos (discounted b (suc T) (suc k)) *ℤ due k) ≡ pos (discounted b T (suc k)) *ℤ due k
       later k h = rw (discounted-back T (suc k) (omega arith), pos_mul (b.q T) (discounted b (suc T) (suc k))) (sym (mul_assoc (pos (b.q T)) (pos (discounted b (suc T) (suc k))) (due k)))
 
-module _ (b : Basis) (rule : AreLives b.lives) (stop : StopLeaving b.lives) (pay : PlainPay) (is : IsValidInsurance pay) (rank : ℕ → ℕ) (T : ℕ) (alive : List Bool) (len : length alive ≡ length b.lives) (events : SomeEvents) where
+module _ (b : Basis) (rule : AreLives b.lives) (pay : PlainPay) (is : IsValidInsurance pay) (rank : ℕ → ℕ) (T : ℕ) (alive : List Bool) (len : length alive ≡ length b.lives) (events : SomeEvents) where
   abbrev paid : ℕ → ℤ
   paid k = pos (paid_for_year b pay T k)
 
   abbrev rest : List Bool → ℤ
-  rest s = others pay is T b.lives rule stop alive len s
+  rest s = others pay is T b.lives rule alive len s
 
   abbrev chance_of : ℕ → ℕ → ℤ
-  chance_of k a = chance pay is T b.lives rule stop alive len rank k a
+  chance_of k a = chance pay is T b.lives rule alive len rank k a
 
   abbrev end_of : ℕ → ℤ
-  end_of k = end_chance pay is T b.lives rule stop alive len rank k
+  end_of k = end_chance pay is T b.lives rule alive len rank k
 
   abbrev due : ℕ → List Bool → ℤ
   due k s = due_for_year pay events rank b.lives k s
@@ -99,7 +99,7 @@ module _ (b : Basis) (rule : AreLives b.lives) (stop : StopLeaving b.lives) (pay
   -- the leavings and the term's end of year k together
   year : (k : ℕ) → paid k *ℤ int_sum_over (numbers_from 0 (length b.lives)) (λ a. cond (events.lives a) (chance_of k a) (pos 0)) +ℤ paid k *ℤ cond (events.terms (suc k)) (end_of k) (pos 0)
       ≡ cond (nat_le T k) (int_sum_over (subsets alive) (λ s. pos (discounted b T (suc k)) *ℤ due k s *ℤ rest s)) (pos 0)
-  year k = rw (leavings-of-year pay is T b.lives rule stop alive len rank k events, ends-of-year pay is T b.lives rule stop alive len rank k events) (each (nat_le pay.defer k) (nat_le T k))
+  year k = rw (leavings-of-year pay is T b.lives rule alive len rank k events, ends-of-year pay is T b.lives rule alive len rank k events) (each (nat_le pay.defer k) (nat_le T k))
     where
       P : ℕ
       P = payment pay (k - pay.defer)
@@ -117,7 +117,7 @@ module _ (b : Basis) (rule : AreLives b.lives) (stop : StopLeaving b.lives) (pay
       c s = form pay k s
 
       d : List Bool → ℤ
-      d s = lost pay is T b.lives rule stop alive len rank k s
+      d s = lost pay is T b.lives rule alive len rank k s
 
       joined : (g l e w r : ℤ) → g *ℤ (l *ℤ r) +ℤ e *ℤ (w *ℤ r) ≡ (g *ℤ l +ℤ e *ℤ w) *ℤ r
       joined g l e w r = ap (λ z. z +ℤ e *ℤ (w *ℤ r)) (sym (mul_assoc g l r)) ∙ ap (λ z. g *ℤ l *ℤ r +ℤ z) (sym (mul_assoc e w r)) ∙ sym (add_mul (g *ℤ l) (e *ℤ w) r)
@@ -213,34 +213,34 @@ module _ (b : Basis) (pay : PlainPay) (rank : ℕ → ℕ) (T : ℕ) (S : ℕ �
   terms-by-year = filtered (numbers_from 1 b.last_time) (λ n. names_term n pay.body) (end_part b pay rank T S) unnamed-part ∙ numbers-next b.last_time 0 (end_part b pay rank T S)
 
 pub insurance-by-sets : InsuranceBySets
-insurance-by-sets b rule stop end pay is T alive len = insurance-by-parts b end pay is.kind T (in_set alive)
+insurance-by-sets b rule end pay is T alive len = insurance-by-parts b end pay is.kind T (in_set alive)
     ∙ int_sum_over-ext (taken b) _ _ (λ order.
     ap (λ z. int_sum_over (numbers_from 0 (length b.lives)) (leaving_part b pay (rank_in order) T (in_set alive)) +ℤ z) (terms-by-year b pay (rank_in order) T (in_set alive))
-    ∙ events-by-sets b rule stop pay is (rank_in order) T alive len all_events)
+    ∙ events-by-sets b rule pay is (rank_in order) T alive len all_events)
 
 chosen : (here : Bool) (z : ℤ) → cond here z (pos 0) ≡ indicator here *ℤ z
 chosen true z = omega (arith, ints)
 chosen false z = omega (arith, ints)
 
 pub leaving-by-sets : LeavingBySets
-leaving-by-sets b rule stop pay is rank T alive len a within =
+leaving-by-sets b rule pay is rank T alive len a within =
     sym (int_sum_over-pick (length b.lives) 0 a (leaving_part b pay rank T (in_set alive)) (omega arith) (omega arith))
     ∙ int_sum_over-ext (numbers_from 0 (length b.lives)) _ _ (λ i. sym (chosen (nat_eq i a) (leaving_part b pay rank T (in_set alive) i)))
     ∙ alone (int_sum_over (numbers_from 0 (length b.lives)) (λ i. cond (nat_eq i a) (leaving_part b pay rank T (in_set alive) i) (pos 0)))
     ∙ ap (λ z. int_sum_over (numbers_from 0 (length b.lives)) (λ i. cond (nat_eq i a) (leaving_part b pay rank T (in_set alive) i) (pos 0)) +ℤ z) (sym (int_sum_over-none (numbers_from 0 b.last_time)))
-    ∙ events-by-sets b rule stop pay is rank T alive len (leaving_of a)
+    ∙ events-by-sets b rule pay is rank T alive len (leaving_of a)
   where
     alone : (z : ℤ) → z ≡ z +ℤ pos 0
     alone z = omega (arith, ints)
 
 pub end-by-sets : EndBySets
-end-by-sets b rule stop pay is rank T alive len n some within =
+end-by-sets b rule pay is rank T alive len n some within =
     ap (end_part b pay rank T (in_set alive)) last
     ∙ sym (int_sum_over-pick b.last_time 0 (n - 1) (λ k. end_part b pay rank T (in_set alive) (suc k)) (omega arith) (omega arith))
     ∙ int_sum_over-ext (numbers_from 0 b.last_time) _ _ (λ k. ap (λ test. indicator test *ℤ end_part b pay rank T (in_set alive) (suc k)) (shifted k) ∙ sym (chosen (nat_eq (suc k) n) (end_part b pay rank T (in_set alive) (suc k))))
     ∙ alone (int_sum_over (numbers_from 0 b.last_time) (λ k. cond (nat_eq (suc k) n) (end_part b pay rank T (in_set alive) (suc k)) (pos 0)))
     ∙ ap (λ z. z +ℤ int_sum_over (numbers_from 0 b.last_time) (λ k. cond (nat_eq (suc k) n) (end_part b pay rank T (in_set alive) (suc k)) (pos 0))) (sym (int_sum_over-none (numbers_from 0 (length b.lives))))
-    ∙ events-by-sets b rule stop pay is rank T alive len (end_of_term n)
+    ∙ events-by-sets b rule pay is rank T alive len (end_of_term n)
   where
     last : n ≡ suc (n - 1)
     last = omega arith

@@ -1,6 +1,7 @@
 pub mod WorkedRows
 pub mod FromTables
 pub mod Weights
+pub mod Leavers
 pub mod Expected
 pub mod OneWay
 pub mod BySets
@@ -12,6 +13,7 @@ pub mod Agreement
 pub mod ByTree
 pub mod Independent
 pub mod Waiting
+pub mod Without
 pub mod PartsByTree
 pub mod Losses
 pub mod Fails

@@ -11,6 +11,7 @@ use Rattle.halo_status.specs.Pay.{PlainPay}
 use Rattle.halo_status.specs.View.{is_on}
 use Rattle.halo_status.specs.declared.view.View.TheVariants.{Due}
 use Rattle.halo_status.proofs.Lasting.{lasts}
+use Rattle.halo_sums.proofs.Numbers.{sum_over-numbers_one}
 use Rattle.halo_model.specs.Outcome.{Exit, Outcome}
 use Rattle.halo_model.specs.There.{lives_at, there}
 use Rattle.halo_model.specs.Event.{Event, ends, is_leaving_of, leaves, leavings, life_not_earlier, lives_after, lives_before, term_ends, terms_after, terms_before, year_of}
@@ -26,21 +27,10 @@ use Rattle.halo_model.proofs.NoChance.{other-than}
 use Rattle.halo_model.proofs.OnePayment.{EndsFrom, LeavesFrom, each-end, each-leaving, each-weaker, none-passes, one-payment-by, paid-fails, part_exists}
 use Rattle.halo_model.proofs.OwnRanks.{orders-give-own-ranks}
 
--- one of some numbers is at most their sum
-one-of : (f : ℕ → ℕ) (count first i : ℕ) → first ≤ i → i < first + count → f i ≤ sum_over (numbers_from first count) f
-one-of f zero first i from before = absurd (omega arith)
-one-of f (suc count) first i from before = go (one-of f count (suc first) i)
-  where
-    go : (suc first ≤ i → i < suc first + count → f i ≤ sum_over (numbers_from (suc first) count) f) → f i ≤ f first + sum_over (numbers_from (suc first) count) f
-    go rest = ⊎_elim (λ later. omega (arith, rest later (omega arith))) here (cases_lt first i)
-      where
-        here : i ≤ first → f i ≤ f first + sum_over (numbers_from (suc first) count) f
-        here h = let e : i ≡ first = omega arith in rw e (omega arith)
-
 -- what an event is worth is at most what all are
 one-leaving : (f : Event → ℕ) (o : Outcome) (a : ℕ) (x : Exit) → a < length o → get_or o a None ≡ Some x → f (leaves a x) ≤ sum_over (leavings 0 o) f
 one-leaving f o a x within at =
-    let one = one-of (λ a. at_exit f (0 + a) (get_or o a None)) (length o) 0 a (omega arith) (omega arith) in
+    let one = sum_over-numbers_one (length o) 0 a (λ a. at_exit f (0 + a) (get_or o a None)) (omega arith) (omega arith) in
     omega (arith, one, sum_over-leavings f 0 o, here)
   where
     here : at_exit f (0 + a) (get_or o a None) ≡ f (leaves a x)
@@ -334,7 +324,7 @@ module _ (pay : PlainPay) (plain : pay.mark ≡ None) (any_cause : pay.causes �
 
     -- after the lives of the year
     last-stands : exists (lives_at (suc k) o) (is_on Due k) pay.body ≡ true
-    last-stands = lasts (standing rank o k last_rank) (lives_at (suc k) o) (is_on Due k) (is_on Due k) (past-standing rank o k last_rank (λ i h. omega (arith, one-of rank (length o) 0 i (omega arith) (omega arith)))) (λ m h. h) pay.body lasting (all-stands last_rank)
+    last-stands = lasts (standing rank o k last_rank) (lives_at (suc k) o) (is_on Due k) (is_on Due k) (past-standing rank o k last_rank (λ i h. omega (arith, sum_over-numbers_one (length o) 0 i rank (omega arith) (omega arith)))) (λ m h. h) pay.body lasting (all-stands last_rank)
       where
         last_rank : ℕ
         last_rank = suc (sum_over (numbers_from 0 (length o)) rank)

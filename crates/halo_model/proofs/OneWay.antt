@@ -26,13 +26,13 @@ module _ (x : PlainLife) (rule : IsLife x) (t : ℕ) (g : Bool → ℤ) where
 
   from-t : (years k : ℕ) → years ≡ x.years_left - k → t ≤ k → sum_from years k ≡ pos (x.survivors k) *ℤ g true
   from-t zero k e h = rw (rule.ends k (omega arith)) (omega (arith, ints))
-  from-t (suc years) k e h = rw (reached k h, from-t years (suc k) (omega arith) (omega arith), rule.falls k (omega arith), pos_add (leavers_in x k) (x.survivors (suc k)))
+  from-t (suc years) k e h = rw (reached k h, from-t years (suc k) (omega arith) (omega arith), rule.falls k, pos_add (leavers_in x k) (x.survivors (suc k)))
       (omega (arith, ints, add_mul (pos (leavers_in x k)) (pos (x.survivors (suc k))) (g true)))
 
   up-to-t : (years k : ℕ) → years ≡ x.years_left - k → k ≤ t → sum_from years k ≡ pos (x.survivors t) *ℤ g true +ℤ (pos (x.survivors k) -ℤ pos (x.survivors t)) *ℤ g false
   up-to-t zero k e h = rw (rule.ends k (omega arith), rule.ends t (omega arith)) (omega (arith, ints))
   up-to-t (suc years) k e h = ⊎_elim
-      (λ before. rw (not-reached k before, up-to-t years (suc k) (omega arith) before, rule.falls k (omega arith), pos_add (leavers_in x k) (x.survivors (suc k)))
+      (λ before. rw (not-reached k before, up-to-t years (suc k) (omega arith) before, rule.falls k, pos_add (leavers_in x k) (x.survivors (suc k)))
       (omega (arith, ints, sub_mul (pos (leavers_in x k) +ℤ pos (x.survivors (suc k))) (pos (x.survivors t)) (g false), add_mul (pos (leavers_in x k)) (pos (x.survivors (suc k))) (g false), sub_mul (pos (x.survivors (suc k))) (pos (x.survivors t)) (g false))))
       (λ from. let here : k ≡ t = omega arith in from-t (suc years) k e from ∙ rw here (none-left (pos (x.survivors t)) (g true) (g false)))
       (cases_lt k t)

@@ -1,5 +1,5 @@
 -- The parts of a value of a pay whose body is read once, along the tree.
-use Rattle.std.proofs.Common.{◌≡◌, ℕ, zero, suc, ◌*◌, ◌<◌, ◌≤◌, arith, refl, ap, sym, ◌∙◌, List, [], ◌∷◌, length, Bool, true, false, cond, nat_le, nat_lt, ℤ, pos, ◌+ℤ◌, ◌*ℤ◌, ◌-ℤ◌}
+use Rattle.std.proofs.Common.{◌≡◌, ℕ, zero, suc, ◌*◌, ◌<◌, ◌≤◌, arith, refl, ap, sym, ◌∙◌, List, [], ◌∷◌, length, Bool, true, false, cond, nat_le, nat_lt, ℤ, pos, ◌+ℤ◌, ◌*ℤ◌, ◌-ℤ◌, IsTrue}
 use Rattle.std.proofs.lemmas.Int.{ints}
 use Rattle.halo_sums.specs.Sums.{indicator, int_sum_over, numbers_from, product_over}
 use Rattle.halo_sums.specs.Sets.{in_set, sets}
@@ -14,6 +14,7 @@ use Rattle.halo_status.specs.Naming.{NamesLivesBelow}
 use Rattle.halo_status.specs.View.{is_on}
 use Rattle.halo_status.specs.Pay.{PlainPay}
 use Rattle.halo_status.specs.declared.view.View.TheVariants.{Due}
+use Rattle.halo_model.specs.EvenTies.{without}
 use Rattle.halo_model.specs.Life.{AreLives, PlainLife, after_first, leavers_by}
 use Rattle.halo_model.specs.Outcome.{joint_survivors}
 use Rattle.halo_model.specs.Expectation.{all_there, all_there_at_leaving, looked_at, survivors_if, whole_if}
@@ -22,7 +23,8 @@ use Rattle.halo_model.specs.Coefficient.{existence, existence_with, form, view_o
 use Rattle.halo_model.specs.ByTree.{weight_of, whole_of}
 use Rattle.halo_model.specs.ByTreeLaws.{AreChances}
 use Rattle.halo_model.specs.Independent.{set_weight, started_of, survivors_of}
-use Rattle.halo_model.specs.PartsByTree.{ChanceOnEndByTree, ChanceOnLeavingByTree, ExistingByTree, leavers_of, put_for, waiting, without}
+use Rattle.halo_model.specs.PartsByTree.{ChanceOnEndByTree, ChanceOnLeavingByTree, ExistingByTree, leavers_of, put_for, waiting}
+use Rattle.halo_model.proofs.Without.{joint-without-first, joint-without-later}
 use Rattle.halo_model.proofs.BySets.{expected-by-sets}
 use Rattle.halo_model.proofs.Falls.{chance-on-leaving}
 use Rattle.halo_model.proofs.Ends.{chance-on-end}
@@ -146,11 +148,32 @@ put-chances zero m n d h proper (suc i) = proper (suc i)
 put-chances (suc a) m n d h proper zero = proper zero
 put-chances (suc a) m n d h proper (suc i) = put-chances a m (after_first n) (after_first d) h (λ j. proper (suc j)) i
 
+-- the joint survivors are those of one life and of the others
+pub joint-with : (a T : ℕ) (S : ℕ → Bool) (lives : List PlainLife) → a < length lives → IsTrue (S a)
+    → started_of T S lives a * joint_survivors T (without S a) lives ≡ joint_survivors T S lives
+joint-with a T S [] h alive = absurd (omega arith)
+joint-with zero T S (x ∷ lives) h alive = ap (λ z. cond (S 0) (x.survivors T) 1 * z) (joint-without-first T S x lives ∙ one-times _)
+  where
+    one-times : (n : ℕ) → 1 * n ≡ n
+    one-times n = omega arith
+joint-with (suc a) T S (x ∷ lives) h alive =
+    ap (λ z. started_of T (after_first S) lives a * z) (joint-without-later a T S x lives)
+    ∙ swapped (started_of T (after_first S) lives a) (cond (S 0) (x.survivors T) 1) (joint_survivors T (without (after_first S) a) lives)
+    ∙ ap (λ z. cond (S 0) (x.survivors T) 1 * z) (joint-with a T (after_first S) lives (omega arith) alive)
+  where
+    swapped : (m n k : ℕ) → m * (n * k) ≡ n * (m * k)
+    swapped m n k = omega arith
+
 -- the joint survivors of the others
-others-started : (a T : ℕ) (S : ℕ → Bool) (lives : List PlainLife) → product_over (numbers_from 0 (length lives)) (put_for a 1 (started_of T S lives)) ≡ joint_survivors T (without a S) lives
+others-started : (a T : ℕ) (S : ℕ → Bool) (lives : List PlainLife) → product_over (numbers_from 0 (length lives)) (put_for a 1 (started_of T S lives)) ≡ joint_survivors T (without S a) lives
 others-started a T S [] = refl
-others-started zero T S (x ∷ lives) = ap (λ z. 1 * z) (product_over-later (length lives) 0 (put_for 0 1 (started_of T S (x ∷ lives))) ∙ all-started T (after_first S) lives)
-others-started (suc a) T S (x ∷ lives) = ap (λ z. cond (S 0) (x.survivors T) 1 * z) (product_over-later (length lives) 0 (put_for (suc a) 1 (started_of T S (x ∷ lives))) ∙ others-started a T (after_first S) lives)
+others-started zero T S (x ∷ lives) =
+    ap (λ z. 1 * z) (product_over-later (length lives) 0 (put_for 0 1 (started_of T S (x ∷ lives))) ∙ all-started T (after_first S) lives)
+    ∙ sym (joint-without-first T S x lives)
+others-started (suc a) T S (x ∷ lives) =
+    ap (λ z. cond (S 0) (x.survivors T) 1 * z)
+    (product_over-later (length lives) 0 (put_for (suc a) 1 (started_of T S (x ∷ lives))) ∙ others-started a T (after_first S) lives)
+    ∙ sym (joint-without-later a T S x lives)
 
 -- a whole of a difference of two shares
 difference : (w l x y a b p : ℤ) → w *ℤ x ≡ a *ℤ p → w *ℤ y ≡ b *ℤ p → w *ℤ (l *ℤ (x -ℤ y)) ≡ l *ℤ ((a -ℤ b) *ℤ p)
@@ -161,7 +184,7 @@ unfolding form
 chance-on-leaving-by-tree pay is once rank T a k deferred started named S alive lives rule year below =
     ap (λ z. pos (whole_of d tree) *ℤ z) (chance-on-leaving pay is rank T a k deferred started named S alive lives rule year
     ∙ leaving-by-sets a (asked pay.causes) k (looked_at rank a k) T (λ i. from (nat_lt (rank i) (rank a))) S lives rule (omega (arith, HasYear-within a k lives year)) (existence pay k))
-    ∙ difference (pos (whole_of d tree)) (pos (leavers_of (asked pay.causes) k lives a)) _ _ (pos (weight_of (n 1) d (is_on Due k) tree)) (pos (weight_of (n 0) d (is_on Due k) tree)) (pos (joint_survivors T (without a S) lives)) (side 1 (omega arith)) (side 0 (omega arith))
+    ∙ difference (pos (whole_of d tree)) (pos (leavers_of (asked pay.causes) k lives a)) _ _ (pos (weight_of (n 1) d (is_on Due k) tree)) (pos (weight_of (n 0) d (is_on Due k) tree)) (pos (joint_survivors T (without S a) lives)) (side 1 (omega arith)) (side 0 (omega arith))
   where
     tree : Tree
     tree = waiting pay.mark pay.body
@@ -176,7 +199,7 @@ chance-on-leaving-by-tree pay is once rank T a k deferred started named S alive 
     from true = omega arith
     from false = started
 
-    side : (m : ℕ) → m ≤ 1 → pos (whole_of d tree) *ℤ with_life (length lives) (survivors_of (looked_at rank a k) S lives) (started_of T S lives) a m (existence pay k) ≡ pos (weight_of (n m) d (is_on Due k) tree) *ℤ pos (joint_survivors T (without a S) lives)
+    side : (m : ℕ) → m ≤ 1 → pos (whole_of d tree) *ℤ with_life (length lives) (survivors_of (looked_at rank a k) S lives) (started_of T S lives) a m (existence pay k) ≡ pos (weight_of (n m) d (is_on Due k) tree) *ℤ pos (joint_survivors T (without S a) lives)
     side m small =
         ap (λ z. pos (whole_of d tree) *ℤ z) (int_sum_over-ext (sets (length lives)) _ _ (λ u. ap (λ z. set_weight (n m) d u *ℤ z) (ap (λ kind. existence_with pay (is_on (view_of kind) k) u) is.kind ∙ by-waiting pay (is_on Due k) u)))
         ∙ existence-by-tree (length lives) (n m) d (put-chances a m (survivors_of (looked_at rank a k) S lives) (started_of T S lives) small (survivors_of-le (looked_at rank a k) T (λ i. from (nat_lt (rank i) (rank a))) S lives rule)) (is_on Due k) tree (waiting-once pay.mark pay.body once) (waiting-named (length lives) pay.mark pay.body below)

@@ -20,7 +20,7 @@ use Rattle.halo_model.specs.Expectation.{all_there}
 use Rattle.halo_model.specs.Horizon.{horizon}
 use Rattle.halo_model.specs.Premium.{all_lives}
 use Rattle.halo_model.specs.Segment.{AreSegmentsFrom, IsUniform, Run, first_time, last_time_of_form}
-use Rattle.halo_model.specs.Backward.{lies_in, may_pay, paid_at, without, years_passed}
+use Rattle.halo_model.specs.Backward.{lies_in, may_pay, outside, paid_at, years_passed}
 use Rattle.halo_model.specs.RunPart.{RunPartsAddUp, paid_to_set, run_part, times_of}
 use Rattle.halo_model.proofs.AfterHorizon.{nothing-after-horizon}
 use Rattle.halo_model.proofs.Backward.{all-there, annuity-by-times, sets-ext, time_part}
@@ -84,8 +84,8 @@ module _ (b : Basis) (pay : PlainPay) where
       ∙ sets-ext (length b.lives) _ _ (λ s long.
       ap (λ z. pos (paid_at pay 0 t * discounted b 0 t) *ℤ (form pay t s *ℤ z)) (
       all-there t 0 all_lives b.lives s long
-      ∙ ap (λ is. cond is (pos (joint_survivors t (in_set s) b.lives * joint_survivors 0 (without all_lives s) b.lives)) (pos 0)) (lies-in-all s all_lives (λ i. refl)))
-      ∙ weigh (paid_at pay 0 t) (discounted b 0 t) (joint_survivors t (in_set s) b.lives * joint_survivors 0 (without all_lives s) b.lives) (form pay t s))
+      ∙ ap (λ is. cond is (pos (joint_survivors t (in_set s) b.lives * joint_survivors 0 (outside all_lives s) b.lives)) (pos 0)) (lies-in-all s all_lives (λ i. refl)))
+      ∙ weigh (paid_at pay 0 t) (discounted b 0 t) (joint_survivors t (in_set s) b.lives * joint_survivors 0 (outside all_lives s) b.lives) (form pay t s))
     where
       weigh : (p d j : ℕ) (c : ℤ) → pos (p * d) *ℤ (c *ℤ pos j) ≡ c *ℤ pos (p * (d * j))
       weigh p d j c =
@@ -105,7 +105,7 @@ module _ (b : Basis) (pay : PlainPay) where
   -- at other times than those of its form nothing is paid
   not-before : (t : ℕ) → t < first_time pay.kind → at_time t ≡ pos 0
   not-before t before =
-      int_sum_over-ext (sets (length b.lives)) _ (λ s. pos 0) (λ s. none (may_pay pay.kind pay.defer 0 t) (payment pay (years_passed pay.kind pay.defer t)) (discounted b 0 t * (joint_survivors t (in_set s) b.lives * joint_survivors 0 (without all_lives s) b.lives)) (form pay t s) (not-yet pay.kind pay.defer t before))
+      int_sum_over-ext (sets (length b.lives)) _ (λ s. pos 0) (λ s. none (may_pay pay.kind pay.defer 0 t) (payment pay (years_passed pay.kind pay.defer t)) (discounted b 0 t * (joint_survivors t (in_set s) b.lives * joint_survivors 0 (outside all_lives s) b.lives)) (form pay t s) (not-yet pay.kind pay.defer t before))
       ∙ int_sum_over-none (sets (length b.lives))
     where
       none : (may : Bool) (p k : ℕ) (c : ℤ) → may ≡ false → c *ℤ pos (cond may p 0 * k) ≡ pos 0
@@ -113,7 +113,7 @@ module _ (b : Basis) (pay : PlainPay) where
 
   not-after : AreLives b.lives → pay.mark ≡ None → HasShortLists pay.body → HasPositiveRanks pay.body → (t : ℕ) → last_time_of_form pay.kind (horizon b.lives pay.body) < t → at_time t ≡ pos 0
   not-after rule plain lists ranks t after =
-      sets-ext (length b.lives) _ (λ s. pos 0) (λ s long. none (paid_at pay 0 t) (discounted b 0 t) (joint_survivors t (in_set s) b.lives) (joint_survivors 0 (without all_lives s) b.lives) (form pay t s) (nothing-after-horizon b rule pay plain lists ranks t after s long))
+      sets-ext (length b.lives) _ (λ s. pos 0) (λ s long. none (paid_at pay 0 t) (discounted b 0 t) (joint_survivors t (in_set s) b.lives) (joint_survivors 0 (outside all_lives s) b.lives) (form pay t s) (nothing-after-horizon b rule pay plain lists ranks t after s long))
       ∙ int_sum_over-none (sets (length b.lives))
     where
       none : (p d j o : ℕ) (c : ℤ) → c *ℤ pos j ≡ pos 0 → c *ℤ pos (p * (d * (j * o))) ≡ pos 0

@@ -8,7 +8,7 @@ use Rattle.halo_model.specs.Outcome.{Outcome, exit_weight, exits, joint_survivor
 -- who is alive at time k leaves in one of the years that are left
 leavers-add : (x : PlainLife) → IsLife x → (years k : ℕ) → years ≡ x.years_left - k → sum_over (numbers_from k years) (leavers_in x) ≡ x.survivors k
 leavers-add x rule zero k e = sym (rule.ends k (omega arith))
-leavers-add x rule (suc years) k e = ap (λ m. leavers_in x k + m) (leavers-add x rule years (suc k) (omega arith)) ∙ sym (rule.falls k (omega arith))
+leavers-add x rule (suc years) k e = ap (λ m. leavers_in x k + m) (leavers-add x rule years (suc k) (omega arith)) ∙ sym (rule.falls k)
 
 exits-add : (x : PlainLife) (T : ℕ) (f : ℕ → ℕ → ℕ) → sum_over (exits T x) (λ e. f e.year e.cause) ≡ sum_over (numbers_from T (x.years_left - T)) (λ k. sum_over (numbers_from 0 x.causes) (f k))
 exits-add x T f = sum_over-flat_map (λ k. map (λ j. record { year = k; cause = j }) (numbers_from 0 x.causes)) (numbers_from T (x.years_left - T)) (λ e. f e.year e.cause)

@@ -67,10 +67,10 @@ segment_rows = record {
 
 -- one leaves each year until nobody is left
 even_leaver-IsLife : (n : ℕ) → IsLife (even_leaver n)
-even_leaver-IsLife n = record { falls = λ k before. falls n k before; ends = λ k past. omega arith }
+even_leaver-IsLife n = record { falls = falls n; ends = λ k past. omega arith }
   where
-    falls : (n k : ℕ) → k < n → n - k ≡ cond (nat_lt k n) 1 0 + 0 + (n - suc k)
-    falls n k before = grind (arith, nat_tests)
+    falls : (n k : ℕ) → n - k ≡ cond (nat_lt k n) 1 0 + 0 + (n - suc k)
+    falls n k = grind (arith, nat_tests)
 
 due-value : pos (numerator long_basis (plain Due (joint (both x y))) 0 all_lives) ≡ pos 55675
 unfolding form coefficient

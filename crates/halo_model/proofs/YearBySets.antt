@@ -13,6 +13,7 @@ use Rattle.halo_sums.proofs.Numbers.{int_sum_over-numbers_ext}
 use Rattle.halo_sums.proofs.Sums.{sum_over-ext, sum_over-none}
 use Rattle.halo_status.specs.Pay.{PlainPay}
 use Rattle.halo_status.specs.Naming.{names_life, names_term}
+use Rattle.halo_model.specs.Backward.{outside}
 use Rattle.halo_model.specs.Life.{AreLives, PlainLife, after_first, leavers_by}
 use Rattle.halo_model.specs.Outcome.{joint_survivors}
 use Rattle.halo_model.specs.Event.{ends}
@@ -20,8 +21,8 @@ use Rattle.halo_model.specs.Payment.{by_cause, falls_on}
 use Rattle.halo_model.specs.Coefficient.{existence_with, form}
 use Rattle.halo_model.specs.Expectation.{HasYear, all_there, all_there_at_leaving, expected, looked_at, survivors_if, whole_if}
 use Rattle.halo_model.specs.Chance.{IsValidInsurance, asked, ending, paid_on_leaving}
-use Rattle.halo_model.specs.SetValue.{SomeEvents, can_fall_on_life, can_fall_on_term, ending_weight, failing_part, holds_of, leaving_weight, outside}
-use Rattle.halo_model.specs.SetLaws.{StopLeaving}
+use Rattle.halo_model.specs.SetValue.{SomeEvents, can_fall_on_life, can_fall_on_term, ending_weight, failing_part, holds_of, leaving_weight}
+use Rattle.halo_model.proofs.Leavers.{leavers_by-past}
 use Rattle.halo_model.proofs.Apart.{LiesIn, LiesIn-length, absent-leaving, apart-leaving, apart-there, beyond-leaving, beyond-there, subsets-ext, sum-within, there-survivors, zero-after}
 use Rattle.halo_model.proofs.Ends.{chance-on-end}
 use Rattle.halo_model.proofs.Falls.{chance-on-leaving}
@@ -46,17 +47,14 @@ none-leaving causes (suc a) k times T S (x ∷ lives) (true ∷ s) len none = ze
 none-leaving causes (suc a) k times T S (x ∷ lives) (false ∷ s) len none = zero-after (whole_if (S 0) x T) _ (none-leaving causes a k (after_first times) T (after_first S) lives s (omega (arith, len)) none)
 
 -- a life has a year in its table, or nobody leaves as it does then
-year-or-none : (causes : ℕ → Bool) (a k : ℕ) (lives : List PlainLife) → StopLeaving lives → a < length lives → HasYear a k lives ⊎ ((HasYear a k lives → ⊥) × NoneLeaves causes a k lives)
-year-or-none causes a k [] stop within = absurd (omega (arith, within))
-year-or-none causes zero k (x ∷ lives) stop within = ⊎_elim
+year-or-none : (causes : ℕ → Bool) (a k : ℕ) (lives : List PlainLife) → AreLives lives → a < length lives
+    → HasYear a k lives ⊎ ((HasYear a k lives → ⊥) × NoneLeaves causes a k lives)
+year-or-none causes a k [] rule within = absurd (omega (arith, within))
+year-or-none causes zero k (x ∷ lives) rule within = ⊎_elim
     (λ before. inl before)
-    (λ past. inr ((λ before. absurd (omega arith)), sum_over-ext (numbers_from 0 x.causes) _ _ (λ j. none (causes j) (x.leavers k j) (stop.0 k j past)) ∙ sum_over-none (numbers_from 0 x.causes)))
+    (λ past. inr ((λ before. absurd (omega arith)), leavers_by-past causes x rule.0 k past))
     (cases_lt k x.years_left)
-  where
-    none : (asked : Bool) (n : ℕ) → n ≡ 0 → cond asked n 0 ≡ 0
-    none true n e = e
-    none false n e = refl
-year-or-none causes (suc a) k (x ∷ lives) stop within = year-or-none causes a k lives stop.1 (omega (arith, within))
+year-or-none causes (suc a) k (x ∷ lives) rule within = year-or-none causes a k lives rule.1 (omega (arith, within))
 
 -- the coefficients of a difference
 coefficient-difference : (f g : List Bool → ℤ) (s : List Bool) → coefficient (λ u. f u -ℤ g u) s ≡ coefficient f s -ℤ coefficient g s
@@ -69,10 +67,10 @@ not-reached m n e h = absurd (grind (arith, nat_tests))
 is-reached : (m n : ℕ) → nat_le m n ≡ true → m ≤ n
 is-reached m n e = grind (arith, nat_tests)
 
-module _ (pay : PlainPay) (is : IsValidInsurance pay) (T : ℕ) (lives : List PlainLife) (rule : AreLives lives) (stop : StopLeaving lives) (alive : List Bool) (len : length alive ≡ length lives) where
+module _ (pay : PlainPay) (is : IsValidInsurance pay) (T : ℕ) (lives : List PlainLife) (rule : AreLives lives) (alive : List Bool) (len : length alive ≡ length lives) where
   -- the survivors at T of the lives alive that are not in a set
   abbrev pub others : List Bool → ℤ
-  others s = pos (joint_survivors T (outside alive s) lives)
+  others s = pos (joint_survivors T (outside (in_set alive) s) lives)
 
   lies-length : (s : List Bool) → LiesIn alive s → length s ≡ length lives
   lies-length s lies = LiesIn-length alive s lies ∙ len
@@ -110,7 +108,7 @@ module _ (pay : PlainPay) (is : IsValidInsurance pay) (T : ℕ) (lives : List Pl
             (λ year. chance-on-leaving pay is rank T a k deferred started (of-marked pay.mark pay.body (names_life a) falls) (in_set alive) e lives rule year ∙ by-subsets a e)
             (λ past. no-chance-on-leaving-outside pay rank T a k (in_set alive) lives (λ here s d y. past.0 y)
             ∙ sym (no-payment a (λ s lies. none-leaving (asked pay.causes) a k (looked_at rank a k) k (in_set s) lives s (lies-length s lies) past.1)))
-            (year-or-none (asked pay.causes) a k lives stop within)
+            (year-or-none (asked pay.causes) a k lives rule within)
 
         each : (d t f : Bool) → nat_le pay.defer k ≡ d → nat_le T k ≡ t → can_fall_on_life pay a ≡ f → chance a ≡ cond (d && t && f) (paid_for a) (pos 0)
         each false t f p q r = no-chance-on-leaving-outside pay rank T a k (in_set alive) lives (λ here s d y. not-reached pay.defer k p d)

@@ -61,20 +61,20 @@ backward b s paid t zero = 0
 backward b s paid t (suc years) =
     paid t * (joint_survivors t (in_set s) b.lives * accumulated b t) + b.q t * backward b s paid (suc t) years
 
--- whether a set lies in the set U, and the numbers of U that are not in it
+-- whether a set lies in the set U, and the lives of U that are not in the set
 abbrev pub lies_in : List Bool → (ℕ → Bool) → Bool
 lies_in [] U = true
 lies_in (false ∷ s) U = lies_in s (after_first U)
 lies_in (true ∷ s) U = U 0 && lies_in s (after_first U)
 
-abbrev pub without : (ℕ → Bool) → List Bool → ℕ → Bool
-without U s i = U i && not (in_set s i)
+abbrev pub outside : (ℕ → Bool) → List Bool → ℕ → Bool
+outside U s i = U i && not (in_set s i)
 
 -- what the coefficient of a set adds to a value at T where the lives of U are alive, over so many years
 abbrev pub set_part : Basis → PlainPay → ℕ → (ℕ → Bool) → ℕ → List Bool → ℤ
 set_part b pay T U years s =
     cond (lies_in s U)
-    ((pos (backward b s (gain pay T s) T years) -ℤ pos (backward b s (loss pay T s) T years)) *ℤ pos (joint_survivors T (without U s) b.lives))
+    ((pos (backward b s (gain pay T s) T years) -ℤ pos (backward b s (loss pay T s) T years)) *ℤ pos (joint_survivors T (outside U s) b.lives))
     (pos 0)
 
 -- an annuity is worth what the sets of lives add

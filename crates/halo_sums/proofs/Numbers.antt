@@ -11,6 +11,20 @@ int_sum_over-numbers_ext zero first f g h = refl
 int_sum_over-numbers_ext (suc count) first f g h = ap (λ z. z +ℤ int_sum_over (numbers_from (suc first) count) f) (h first (omega arith) (omega arith))
     ∙ ap (λ z. g first +ℤ z) (int_sum_over-numbers_ext count (suc first) f g (λ i above below. h i (omega arith) (omega arith)))
 
+pub sum_over-numbers_ext : (count first : ℕ) (f g : ℕ → ℕ) → ((i : ℕ) → first ≤ i → i < first + count → f i ≡ g i)
+    → sum_over (numbers_from first count) f ≡ sum_over (numbers_from first count) g
+sum_over-numbers_ext zero first f g h = refl
+sum_over-numbers_ext (suc count) first f g h =
+    omega (arith, h first (omega arith) (omega arith), sum_over-numbers_ext count (suc first) f g (λ i from to. h i (omega arith) (omega arith)))
+
+-- at one of the numbers, at most the sum
+pub sum_over-numbers_one : (count first i : ℕ) (f : ℕ → ℕ) → first ≤ i → i < first + count → f i ≤ sum_over (numbers_from first count) f
+sum_over-numbers_one zero first i f from before = absurd (omega arith)
+sum_over-numbers_one (suc count) first i f from before = ⊎_elim
+    (λ (later : first < i). omega (arith, sum_over-numbers_one count (suc first) i f (omega arith) (omega arith)))
+    (λ (here : i ≤ first). let e : i ≡ first = omega arith in rw e (omega arith))
+    (cases_lt first i)
+
 -- the numbers from the next one on
 pub sum_over-numbers_next : (count first : ℕ) (f : ℕ → ℕ) → sum_over (numbers_from (suc first) count) f ≡ sum_over (numbers_from first count) (λ i. f (suc i))
 sum_over-numbers_next zero first f = refl
