@@ -97,7 +97,7 @@ paid-worth before result num den most w paid worth lo hi = record {
 -- survivors only fall
 falling : (x : PlainLife) → IsLife x → (t : ℕ) → x.survivors (suc t) ≤ x.survivors t
 falling x rule t = ⊎_elim
-    (λ (before : t < x.years_left). omega (arith, rule.falls t before))
+    (λ (before : t < x.years_left). omega (arith, rule.falls t))
     (λ (after : x.years_left ≤ t). omega (arith, rule.ends (suc t) (omega arith)))
     (cases_lt t x.years_left)
 

@@ -27,5 +27,5 @@ pub leavers-are : (file : TableFile) → IsSound file → (table age : ℕ) → 
 leavers-are file sound table age row =
     let here : age + 0 ≡ age = omega arith in
     let falls : survivors_at file table (age + 0) ≡ leavers_at_age file table (age + 0) + survivors_at file table (age + 1)
-    = (life_of-IsLife file sound table age row.table_in row.from_first).falls 0 (omega (arith, row.to_last)) in
+    = (life_of-IsLife file sound table age row.table_in row.from_first).falls 0 in
     omega (arith, rw here at falls)
