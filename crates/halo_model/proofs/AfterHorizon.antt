@@ -34,9 +34,11 @@ beside-it u s h zero e = e
 beside-it u s h (suc i) e = h i e
 
 -- a function that is 0 within a set has no coefficient there
-pub coefficient-zero : (f : List Bool → ℤ) (s : List Bool) → ((u : List Bool) → Within u s → f u ≡ pos 0) → coefficient f s ≡ pos 0
+pub coefficient-zero : (f : List Bool → ℤ) (s : List Bool)
+    → ((u : List Bool) → Within u s → f u ≡ pos 0) → coefficient f s ≡ pos 0
 coefficient-zero f [] h = coefficient-empty f ∙ h [] (λ i e. e)
-coefficient-zero f (false ∷ s) h = coefficient-without f s ∙ coefficient-zero (λ u. f (false ∷ u)) s (λ u w. h (false ∷ u) (beside-it u s w))
+coefficient-zero f (false ∷ s) h = coefficient-without f s
+    ∙ coefficient-zero (λ u. f (false ∷ u)) s (λ u w. h (false ∷ u) (beside-it u s w))
 coefficient-zero f (true ∷ s) h = omega (
   arith,
   ints,
@@ -53,10 +55,12 @@ nobody-survives t [] rule (b ∷ s) long i e h = absurd (omega arith)
 nobody-survives t (x ∷ lives) rule [] long i e h = absurd (omega arith)
 nobody-survives t (x ∷ lives) rule (false ∷ s) long zero e h = absurd (cc)
 nobody-survives t (x ∷ lives) rule (true ∷ s) long zero e h = let z = rule.0.ends t h in rw z (omega arith)
-nobody-survives t (x ∷ lives) rule (b ∷ s) long (suc i) e h = let z = nobody-survives t lives rule.1 s (omega arith) i e h in rw z (omega arith)
+nobody-survives t (x ∷ lives) rule (b ∷ s) long (suc i) e h =
+    let z = nobody-survives t lives rule.1 s (omega arith) i e h in rw z (omega arith)
 
 -- the terms that have ended by then
-off : (kind : Kind) (years t n : ℕ) → 1 ≤ years → last_time_of_form kind years < t → n ≤ years → is_on (view_of kind) t n ≡ false
+off : (kind : Kind) (years t n : ℕ)
+    → 1 ≤ years → last_time_of_form kind years < t → n ≤ years → is_on (view_of kind) t n ≡ false
 off Insurance years t n one h k = let e : n ≤ t = omega arith in grind (arith, nat_tests)
 off Due years t n one h k = let e : n ≤ t = omega arith in grind (arith, nat_tests)
 off Immediate years t n one h k = let e : n < t = omega arith in grind (arith, nat_tests)
@@ -72,19 +76,22 @@ not-true false h = refl
 
 pub nothing-after-horizon : NothingAfterHorizon
 unfolding form
-nothing-after-horizon b rule pay plain lists ranks t after s long = by-survivors (joint_survivors t (in_set s) b.lives) refl
+nothing-after-horizon b rule pay plain lists ranks t after s long =
+    by-survivors (joint_survivors t (in_set s) b.lives) refl
   where
     covers : Covers b.lives pay.body (horizon b.lives pay.body)
     covers = (horizon-is-least b.lives pay.body (horizon b.lives pay.body)).0 (omega arith)
 
-    gone : (n : ℕ) → joint_survivors t (in_set s) b.lives ≡ suc n → (u : List Bool) → Within u s → exists (in_set u) (is_on (view_of pay.kind) t) pay.body ≡ false
+    gone : (n : ℕ) → joint_survivors t (in_set s) b.lives ≡ suc n
+        → (u : List Bool) → Within u s → exists (in_set u) (is_on (view_of pay.kind) t) pay.body ≡ false
     gone n some u within =
         agree (in_set u) empty_set (is_on (view_of pay.kind) t) empty_set pay.body
         (λ i named. not-true (in_set u i) (λ e. absurd (omega (
           arith,
           some,
           nobody-survives t b.lives rule s long i (within i e)
-              (late pay.kind (horizon b.lives pay.body) t (years_left_of b.lives i) covers.one after (covers.each_life i named)),
+              (late pay.kind
+              (horizon b.lives pay.body) t (years_left_of b.lives i) covers.one after (covers.each_life i named)),
         ))))
         (λ m named. off pay.kind (horizon b.lives pay.body) t m covers.one after (covers.each_term m named))
         ∙ nobody_there pay.body lists ranks
@@ -93,5 +100,6 @@ nothing-after-horizon b rule pay plain lists ranks t after s long = by-survivors
     by-survivors zero e = *ℤ-zero (coefficient (existence pay t) s)
     by-survivors (suc n) e =
         ap (λ c. c *ℤ pos (suc n)) (coefficient-zero (existence pay t) s (λ u within.
-        ap (λ mark. indicator (exists_by_mark mark pay.body (in_set u) (is_on (view_of pay.kind) t))) plain ∙ ap indicator (gone n e u within)))
+        ap (λ mark. indicator (exists_by_mark mark pay.body (in_set u) (is_on (view_of pay.kind) t))) plain
+        ∙ ap indicator (gone n e u within)))
         ∙ omega (arith, ints)

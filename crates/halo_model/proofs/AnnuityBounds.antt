@@ -54,7 +54,8 @@ cond-le true w = omega arith
 cond-le false w = omega arith
 
 -- a value later is worth no more
-discount-le : (p q : ℕ → ℕ) (count first : ℕ) → product_over (numbers_from first count) q ≤ product_over (numbers_from first count) (λ k. p k + q k)
+discount-le : (p q : ℕ → ℕ) (count first : ℕ)
+    → product_over (numbers_from first count) q ≤ product_over (numbers_from first count) (λ k. p k + q k)
 discount-le p q zero first = omega arith
 discount-le p q (suc count) first = mul-le _ _ _ _ (omega arith) (discount-le p q count (suc first))
 
@@ -63,9 +64,11 @@ discounted-le b T t from before =
     let split : b.last_time - T ≡ (t - T) + (b.last_time - t) = omega arith in
     let there : T + (t - T) ≡ t = omega arith in
     let all : accumulated b T ≡ product_over (numbers_from T (t - T)) (λ k. b.p k + b.q k) * accumulated b t =
-    ap (λ (n : ℕ). product_over (numbers_from T n) (λ k. b.p k + b.q k)) split ∙ ap (λ ks. product_over ks (λ k. b.p k + b.q k)) (numbers_from-add (t - T) (b.last_time - t) T)
+    ap (λ (n : ℕ). product_over (numbers_from T n) (λ k. b.p k + b.q k)) split
+    ∙ ap (λ ks. product_over ks (λ k. b.p k + b.q k)) (numbers_from-add (t - T) (b.last_time - t) T)
     ∙ product_over-append (numbers_from T (t - T)) (numbers_from (T + (t - T)) (b.last_time - t)) (λ k. b.p k + b.q k)
-    ∙ ap (λ (k : ℕ). product_over (numbers_from T (t - T)) (λ k. b.p k + b.q k) * product_over (numbers_from k (b.last_time - t)) (λ k. b.p k + b.q k)) there in
+    ∙ ap (λ (k : ℕ). product_over (numbers_from T (t - T))
+    (λ k. b.p k + b.q k) * product_over (numbers_from k (b.last_time - t)) (λ k. b.p k + b.q k)) there in
     rw all (mul-le-mul_right (accumulated b t) (discount-le b.p b.q (t - T) T))
 
 may-from : (kind : Kind) (defer T t : ℕ) → may_pay kind defer T t ≡ true → T ≤ t
@@ -76,21 +79,32 @@ may-from Immediate defer T t e = grind (arith, nat_tests)
 module _ (b : Basis) (rule : AreLives b.lives) (pay : PlainPay) (plain : pay.mark ≡ None) (T : ℕ) (U : ℕ → Bool) where
   -- the weight of the outcomes in which the body exists at time t
   abbrev existing : ℕ → ℕ
-  existing t = sum_over (outcomes T U b.lives) (λ o. cond (exists (lives_at t o) (is_on (view_of pay.kind) t) pay.body) (weight b.lives o) 0)
+  existing t = sum_over (outcomes T U b.lives)
+      (λ o. cond (exists (lives_at t o) (is_on (view_of pay.kind) t) pay.body) (weight b.lives o) 0)
 
   existing-is : (t : ℕ) → T ≤ t → pos (existing t) ≡ existing_weight b pay T U t
   existing-is t from =
-      sym (int_sum_over-pos (outcomes T U b.lives) (λ o. cond (exists (lives_at t o) (is_on (view_of pay.kind) t) pay.body) (weight b.lives o) 0))
-      ∙ int_sum_over-ext (outcomes T U b.lives) _ _ (λ o. sym (weighed (weight b.lives o) (exists (lives_at t o) (is_on (view_of pay.kind) t) pay.body)))
+      sym (int_sum_over-pos (outcomes T U b.lives)
+      (λ o. cond (exists (lives_at t o) (is_on (view_of pay.kind) t) pay.body) (weight b.lives o) 0))
+      ∙ int_sum_over-ext (outcomes T U b.lives) _ _
+      (λ o. sym (weighed (weight b.lives o) (exists (lives_at t o) (is_on (view_of pay.kind) t) pay.body)))
       ∙ exists-weight b rule pay plain (view_of pay.kind) refl T U t from
 
   existing-le : (t : ℕ) → existing t ≤ joint_survivors T U b.lives
-  existing-le t = omega (arith, sum_over-le (outcomes T U b.lives) _ (weight b.lives) (λ o. cond-le (exists (lives_at t o) (is_on (view_of pay.kind) t) pay.body) (weight b.lives o)), weights-add T U b.lives rule)
+  existing-le t = omega (
+    arith,
+    sum_over-le (outcomes T U b.lives) _ (weight b.lives) (λ o. cond-le
+        (exists (lives_at t o) (is_on (view_of pay.kind) t) pay.body) (weight b.lives o)),
+    weights-add T U b.lives rule,
+  )
 
   -- nothing exists after the last time of the form
-  existing-none : HasShortLists pay.body → HasPositiveRanks pay.body → (t : ℕ) → T ≤ t → last_time_of_form pay.kind (horizon b.lives pay.body) < t → existing t ≡ 0
+  existing-none : HasShortLists pay.body → HasPositiveRanks pay.body
+      → (t : ℕ) → T ≤ t → last_time_of_form pay.kind (horizon b.lives pay.body) < t → existing t ≡ 0
   existing-none short ranks t from after = pos_injective (existing t) 0 (existing-is t from
-      ∙ sets-ext (length b.lives) _ (λ s. pos 0) (λ s long. ap (λ z. form pay t s *ℤ z) (all-there t T U b.lives s long) ∙ no-weight (lies_in s U) (form pay t s) _ _ (nothing-after-horizon b rule pay plain short ranks t after s long))
+      ∙ sets-ext (length b.lives) _
+      (λ s. pos 0) (λ s long. ap (λ z. form pay t s *ℤ z) (all-there t T U b.lives s long) ∙ no-weight
+      (lies_in s U) (form pay t s) _ _ (nothing-after-horizon b rule pay plain short ranks t after s long))
       ∙ int_sum_over-none (sets (length b.lives)))
     where
       none : (n : ℕ) → 0 * n ≡ 0
@@ -98,7 +112,8 @@ module _ (b : Basis) (rule : AreLives b.lives) (pay : PlainPay) (plain : pay.mar
 
       no-weight : (is : Bool) (c : ℤ) (j o : ℕ) → c *ℤ pos j ≡ pos 0 → c *ℤ cond is (pos (j * o)) (pos 0) ≡ pos 0
       no-weight false c j o e = *ℤ-zero c
-      no-weight true c j o e = ap (λ z. c *ℤ z) (pos_mul j o) ∙ sym (mul_assoc c (pos j) (pos o)) ∙ ap (λ z. z *ℤ pos o) e ∙ ap pos (none o)
+      no-weight true c j o e = ap (λ z. c *ℤ z) (pos_mul j o)
+          ∙ sym (mul_assoc c (pos j) (pos o)) ∙ ap (λ z. z *ℤ pos o) e ∙ ap pos (none o)
 
   -- what is paid at time t adds to the value
   abbrev paid_value : ℕ → ℕ
@@ -107,20 +122,26 @@ module _ (b : Basis) (rule : AreLives b.lives) (pay : PlainPay) (plain : pay.mar
   value-is : (t : ℕ) → time_part b pay T U t ≡ pos (paid_value t)
   value-is t = by-test (may_pay pay.kind pay.defer T t) refl
     where
-      by-test : (may : Bool) → may_pay pay.kind pay.defer T t ≡ may → cond may (pos (payment pay (years_passed pay.kind pay.defer t) * discounted b T t) *ℤ existing_weight b pay T U t) (pos 0) ≡ pos (cond may (payment pay (years_passed pay.kind pay.defer t)) 0 * (discounted b T t * existing t))
+      by-test : (may : Bool) → may_pay pay.kind pay.defer T t ≡ may → cond may
+          (pos (payment pay (years_passed pay.kind pay.defer t) * discounted b T t) *ℤ existing_weight b pay T U t)
+          (pos 0) ≡ pos (cond may (payment pay (years_passed pay.kind pay.defer t)) 0 * (discounted b T t * existing t))
       by-test false e = ap pos (none (discounted b T t * existing t))
         where
           none : (n : ℕ) → 0 ≡ 0 * n
           none n = omega arith
-      by-test true e = ap (λ z. pos (payment pay (years_passed pay.kind pay.defer t) * discounted b T t) *ℤ z) (sym (existing-is t (may-from pay.kind pay.defer T t e))) ∙ ap pos (regroup (payment pay (years_passed pay.kind pay.defer t)) (discounted b T t) (existing t))
+      by-test true e = ap (λ z. pos (payment pay (years_passed pay.kind pay.defer t) * discounted b T t) *ℤ z)
+          (sym (existing-is t (may-from pay.kind pay.defer T t e)))
+          ∙ ap pos (regroup (payment pay (years_passed pay.kind pay.defer t)) (discounted b T t) (existing t))
         where
           regroup : (p d e : ℕ) → p * d * e ≡ p * (d * e)
           regroup p d e = omega arith
 
   -- the value as a sum of naturals
-  pub value-sums : pay.kind ≢ Insurance → numerator b pay T U ≡ length (taken b) * sum_over (numbers_from 0 (suc b.last_time)) paid_value
+  pub value-sums : pay.kind ≢ Insurance
+      → numerator b pay T U ≡ length (taken b) * sum_over (numbers_from 0 (suc b.last_time)) paid_value
   value-sums annual = pos_injective _ _ (annuity-by-times b rule pay annual plain T U
-      ∙ ap (λ z. pos (length (taken b)) *ℤ z) (int_sum_over-ext (numbers_from 0 (suc b.last_time)) _ _ value-is ∙ int_sum_over-pos (numbers_from 0 (suc b.last_time)) paid_value)
+      ∙ ap (λ z. pos (length (taken b)) *ℤ z) (int_sum_over-ext (numbers_from 0 (suc b.last_time)) _ _ value-is
+      ∙ int_sum_over-pos (numbers_from 0 (suc b.last_time)) paid_value)
       ∙ sym (pos_mul (length (taken b)) (sum_over (numbers_from 0 (suc b.last_time)) paid_value)))
 
 -- a payment of 1 is at most its greatest factor
@@ -134,11 +155,17 @@ passed-le Insurance defer t = omega arith
 passed-le Due defer t = omega arith
 passed-le Immediate defer t = omega arith
 
-paid-le : (pay : PlainPay) → pay.amount ≡ 1 → (T t years : ℕ) → t ≤ years → paid_at pay T t ≤ greatest_factor pay.vary years
+paid-le : (pay : PlainPay)
+    → pay.amount ≡ 1 → (T t years : ℕ) → t ≤ years → paid_at pay T t ≤ greatest_factor pay.vary years
 paid-le pay one T t years h =
     let passed = years_passed pay.kind pay.defer t in
     let e : payment pay passed ≡ 1 * factor pay.vary passed = ap (λ (a : ℕ). a * factor pay.vary passed) one in
-    omega (arith, e, cond-le (may_pay pay.kind pay.defer T t) (payment pay passed), factor-le pay.vary passed years (omega (arith, h, passed-le pay.kind pay.defer t)))
+    omega (
+      arith,
+      e,
+      cond-le (may_pay pay.kind pay.defer T t) (payment pay passed),
+      factor-le pay.vary passed years (omega (arith, h, passed-le pay.kind pay.defer t)),
+    )
 
 last-le : (kind : Kind) (years : ℕ) → last_time_of_form kind years ≤ years
 last-le Insurance years = omega arith
@@ -146,7 +173,8 @@ last-le Due years = omega arith
 last-le Immediate years = omega arith
 
 -- a sum of numbers that are at most a bound up to a last place, and 0 after it
-one-until : (n rest bound last first : ℕ) → (first ≤ last → n ≤ bound) → (last < first → n ≡ 0) → rest ≤ (suc last - suc first) * bound → n + rest ≤ (suc last - first) * bound
+one-until : (n rest bound last first : ℕ) → (first ≤ last → n ≤ bound)
+    → (last < first → n ≡ 0) → rest ≤ (suc last - suc first) * bound → n + rest ≤ (suc last - first) * bound
 one-until n rest bound last first most none h = ⊎_elim
     (λ (early : first < suc last).
     let e : suc last - first ≡ suc (suc last - suc first) = omega arith in
@@ -156,13 +184,17 @@ one-until n rest bound last first most none h = ⊎_elim
     omega (arith, none (omega arith), rw y at h))
     (cases_lt first (suc last))
 
-sum-until : (f : ℕ → ℕ) (bound last count first : ℕ) → ((t : ℕ) → t < first + count → t ≤ last → f t ≤ bound) → ((t : ℕ) → t < first + count → last < t → f t ≡ 0) → sum_over (numbers_from first count) f ≤ (suc last - first) * bound
+sum-until : (f : ℕ → ℕ) (bound last count first : ℕ)
+    → ((t : ℕ) → t < first + count → t ≤ last → f t ≤ bound) → ((t : ℕ) → t < first + count → last < t → f t ≡ 0)
+    → sum_over (numbers_from first count) f ≤ (suc last - first) * bound
 sum-until f bound last zero first most none = omega arith
 sum-until f bound last (suc count) first most none =
-    one-until (f first) _ bound last first (most first (omega arith)) (none first (omega arith)) (sum-until f bound last count (suc first) (λ t below. most t (omega arith)) (λ t below. none t (omega arith)))
+    one-until (f first) _ bound last first (most first (omega arith)) (none first (omega arith))
+    (sum-until f bound last count (suc first) (λ t below. most t (omega arith)) (λ t below. none t (omega arith)))
 
 -- a sum is at least each of its numbers
-sum-above : (f : ℕ → ℕ) (count first t : ℕ) → first ≤ t → t < first + count → f t ≤ sum_over (numbers_from first count) f
+sum-above : (f : ℕ → ℕ) (count first t : ℕ)
+    → first ≤ t → t < first + count → f t ≤ sum_over (numbers_from first count) f
 sum-above f zero first t from below = absurd (omega arith)
 sum-above f (suc count) first t from below = ⊎_elim
     (λ (later : first < t). omega (arith, sum-above f count (suc first) t (omega arith) (omega arith)))
@@ -175,7 +207,8 @@ paid-none may n k e = rw e (omega arith)
 times-none : (p d e : ℕ) → e ≡ 0 → p * (d * e) ≡ 0
 times-none p d e h = rw h (omega arith)
 
-worth : (kind : Kind) → kind ≢ Insurance → (m : Measures) (n : ℕ) → suc m.horizon * (m.factor * n) ≤ most_worth kind m * n
+worth : (kind : Kind)
+    → kind ≢ Insurance → (m : Measures) (n : ℕ) → suc m.horizon * (m.factor * n) ≤ most_worth kind m * n
 unfolding most_worth
 worth Insurance annual m n = absurd (annual refl)
 worth Due annual m n = omega arith
@@ -189,34 +222,54 @@ annuity-is-bounded b rule pay annual plain one short ranks T in_time U =
     let last : ℕ = last_time_of_form pay.kind years in
     let top : ℕ = greatest_factor pay.vary years in
     let all_of_it : suc last - 0 ≡ suc last = omega arith in
-    let sum = rw all_of_it at (sum-until (paid_value b rule pay plain T U) (top * whole) last (suc b.last_time) 0 each after) in
-    let few : suc last * (top * whole) ≤ suc years * (top * whole) = mul-le-mul_right (top * whole) (omega (arith, last-le pay.kind years)) in
-    let worth_is : suc years * (top * whole) ≤ most_worth pay.kind (measures_of b pay) * whole = worth pay.kind annual (measures_of b pay) whole in
-    let all : sum_over (numbers_from 0 (suc b.last_time)) (paid_value b rule pay plain T U) ≤ most_worth pay.kind (measures_of b pay) * whole = omega (arith, sum, few, worth_is) in
-    let orders : length (taken b) * sum_over (numbers_from 0 (suc b.last_time)) (paid_value b rule pay plain T U) ≤ length (taken b) * (most_worth pay.kind (measures_of b pay) * whole) = mul-le-mul_left (length (taken b)) all in
+    let sum = rw all_of_it at (sum-until
+    (paid_value b rule pay plain T U) (top * whole) last (suc b.last_time) 0 each after) in
+    let few : suc last * (top * whole) ≤ suc years * (top * whole) =
+    mul-le-mul_right (top * whole) (omega (arith, last-le pay.kind years)) in
+    let worth_is : suc years * (top * whole) ≤ most_worth pay.kind (measures_of b pay) * whole =
+    worth pay.kind annual (measures_of b pay) whole in
+    let all : sum_over (numbers_from 0 (suc b.last_time)) (paid_value b rule pay plain T U)
+    ≤ most_worth pay.kind (measures_of b pay) * whole = omega (arith, sum, few, worth_is) in
+    let orders : length (taken b) * sum_over (numbers_from 0 (suc b.last_time)) (paid_value b rule pay plain T U)
+    ≤ length (taken b) * (most_worth pay.kind (measures_of b pay) * whole) =
+    mul-le-mul_left (length (taken b)) all in
     rw (value-sums b rule pay plain T U annual) (omega (arith, orders))
   where
-    each : (t : ℕ) → t < 0 + suc b.last_time → t ≤ last_time_of_form pay.kind (horizon b.lives pay.body) → paid_value b rule pay plain T U t ≤ greatest_factor pay.vary (horizon b.lives pay.body) * (joint_survivors T U b.lives * accumulated b T)
+    each : (t : ℕ) → t < 0 + suc b.last_time
+        → t ≤ last_time_of_form pay.kind (horizon b.lives pay.body) → paid_value b rule pay plain T U t
+        ≤ greatest_factor pay.vary (horizon b.lives pay.body) * (joint_survivors T U b.lives * accumulated b T)
     each t below early = ⊎_elim
-        (λ (before : t < T). omega (arith, paid-none (may_pay pay.kind pay.defer T t) (payment pay (years_passed pay.kind pay.defer t)) (discounted b T t * existing b rule pay plain T U t) (may-not-before pay.kind pay.defer T t before)))
+        (λ (before : t < T). omega (
+          arith,
+          paid-none (may_pay pay.kind pay.defer T t) (payment pay (years_passed pay.kind pay.defer t))
+              (discounted b T t * existing b rule pay plain T U t) (may-not-before pay.kind pay.defer T t before),
+        ))
         (λ (from : T ≤ t).
-        let d : discounted b T t * existing b rule pay plain T U t ≤ accumulated b T * joint_survivors T U b.lives = mul-le _ _ _ _ (discounted-le b T t from (omega arith)) (existing-le b rule pay plain T U t) in
-        let p : paid_at pay T t ≤ greatest_factor pay.vary (horizon b.lives pay.body) = paid-le pay one T t (horizon b.lives pay.body) (omega (arith, early, last-le pay.kind (horizon b.lives pay.body))) in
+        let d : discounted b T t * existing b rule pay plain T U t ≤ accumulated b T * joint_survivors T U b.lives =
+        mul-le _ _ _ _ (discounted-le b T t from (omega arith)) (existing-le b rule pay plain T U t) in
+        let p : paid_at pay T t ≤ greatest_factor pay.vary (horizon b.lives pay.body) = paid-le pay one T t
+        (horizon b.lives pay.body) (omega (arith, early, last-le pay.kind (horizon b.lives pay.body))) in
         omega (arith, mul-le _ _ _ _ p d))
         (cases_lt t T)
 
-    after : (t : ℕ) → t < 0 + suc b.last_time → last_time_of_form pay.kind (horizon b.lives pay.body) < t → paid_value b rule pay plain T U t ≡ 0
+    after : (t : ℕ) → t < 0 + suc b.last_time
+        → last_time_of_form pay.kind (horizon b.lives pay.body) < t → paid_value b rule pay plain T U t ≡ 0
     after t below late = ⊎_elim
-        (λ (before : t < T). paid-none (may_pay pay.kind pay.defer T t) (payment pay (years_passed pay.kind pay.defer t)) (discounted b T t * existing b rule pay plain T U t) (may-not-before pay.kind pay.defer T t before))
-        (λ (from : T ≤ t). times-none (paid_at pay T t) (discounted b T t) (existing b rule pay plain T U t) (existing-none b rule pay plain T U short ranks t from late))
+        (λ (before : t < T). paid-none
+        (may_pay pay.kind pay.defer T t) (payment pay (years_passed pay.kind pay.defer t))
+        (discounted b T t * existing b rule pay plain T U t) (may-not-before pay.kind pay.defer T t before))
+        (λ (from : T ≤ t). times-none (paid_at pay T t) (discounted b T t)
+        (existing b rule pay plain T U t) (existing-none b rule pay plain T U short ranks t from late))
         (cases_lt t T)
 
 -- at the start exactly the living lives are there
-alive-now : (T : ℕ) (U : ℕ → Bool) (lives : List PlainLife) (o : Outcome) → Comes T U lives o → (i : ℕ) → i < length lives → lives_at T o i ≡ U i
+alive-now : (T : ℕ) (U : ℕ → Bool) (lives : List PlainLife) (o : Outcome)
+    → Comes T U lives o → (i : ℕ) → i < length lives → lives_at T o i ≡ U i
 alive-now T U [] o comes i below = absurd (omega arith)
 alive-now T U (x ∷ lives) [] comes i below = absurd comes
 alive-now T U (x ∷ lives) (None ∷ o) comes zero below = sym comes.0
-alive-now T U (x ∷ lives) (Some e ∷ o) comes zero below = let from = comes.0.1 in from-start T e.year from ∙ sym comes.0.0
+alive-now T U (x ∷ lives) (Some e ∷ o) comes zero below = let from = comes.0.1 in
+    from-start T e.year from ∙ sym comes.0.0
   where
     from-start : (T year : ℕ) → T ≤ year → nat_le T year ≡ true
     from-start T year h = grind (arith, nat_tests)
@@ -230,28 +283,37 @@ unfolding denominator
 due-is-worth-one b rule pay due plain one level at_once below T in_time U is =
     let paid : paid_at pay T T ≡ 1 = pays-one pay.kind pay.defer pay.vary pay.amount due at_once level one in
     let all : existing b rule pay plain T U T ≡ joint_survivors T U b.lives = pos_injective _ _ exists-all in
-    let here : paid_value b rule pay plain T U T ≡ accumulated b T * joint_survivors T U b.lives = rw (paid, all, discounted-now b T) (omega arith) in
+    let here : paid_value b rule pay plain T U T ≡ accumulated b T * joint_survivors T U b.lives =
+    rw (paid, all, discounted-now b T) (omega arith) in
     let sum = sum-above (paid_value b rule pay plain T U) (suc b.last_time) 0 T (omega arith) (omega arith) in
-    let orders : length (taken b) * (accumulated b T * joint_survivors T U b.lives) ≤ length (taken b) * sum_over (numbers_from 0 (suc b.last_time)) (paid_value b rule pay plain T U) = mul-le-mul_left (length (taken b)) (omega (arith, here, sum)) in
+    let orders : length (taken b) * (accumulated b T * joint_survivors T U b.lives)
+    ≤ length (taken b) * sum_over (numbers_from 0 (suc b.last_time)) (paid_value b rule pay plain T U) =
+    mul-le-mul_left (length (taken b)) (omega (arith, here, sum)) in
     rw (value-sums b rule pay plain T U (λ e. absurd (cc (sym due ∙ e)))) (omega (arith, orders))
   where
-    pays-one : (kind : Kind) (defer : ℕ) (vary : Vary) (amount : ℕ) → kind ≡ Due → defer ≡ 0 → vary ≡ Level → amount ≡ 1 → cond (may_pay kind defer T T) (amount * factor vary (years_passed kind defer T)) 0 ≡ 1
+    pays-one : (kind : Kind) (defer : ℕ) (vary : Vary) (amount : ℕ) → kind ≡ Due → defer ≡ 0 → vary ≡ Level
+        → amount ≡ 1 → cond (may_pay kind defer T T) (amount * factor vary (years_passed kind defer T)) 0 ≡ 1
     pays-one kind defer vary amount e f g h = rw (e, f, g, h, due-now T) (omega arith)
 
     view-is : view_of pay.kind ≡ DueView
     view-is = ap view_of due
 
-    same : (o : Outcome) → Comes T U b.lives o → indicator (exists (lives_at T o) (is_on (view_of pay.kind) T) pay.body) ≡ pos 1
+    same : (o : Outcome)
+        → Comes T U b.lives o → indicator (exists (lives_at T o) (is_on (view_of pay.kind) T) pay.body) ≡ pos 1
     same o comes = ap indicator (
         ap (λ view. exists (lives_at T o) (is_on view T) pay.body) view-is
-        ∙ agree (lives_at T o) U (is_on DueView T) (is_on DueView T) pay.body (λ i named. alive-now T U b.lives o comes i (below i named)) (λ n named. refl)
+        ∙ agree (lives_at T o) U (is_on DueView T)
+        (is_on DueView T) pay.body (λ i named. alive-now T U b.lives o comes i (below i named)) (λ n named. refl)
         ∙ is)
 
     exists-all : pos (existing b rule pay plain T U T) ≡ pos (joint_survivors T U b.lives)
     exists-all =
-        sym (int_sum_over-pos (outcomes T U b.lives) (λ o. cond (exists (lives_at T o) (is_on (view_of pay.kind) T) pay.body) (weight b.lives o) 0))
-        ∙ int_sum_over-ext (outcomes T U b.lives) _ _ (λ o. sym (weighed (weight b.lives o) (exists (lives_at T o) (is_on (view_of pay.kind) T) pay.body)))
-        ∙ expected-where T U b.lives (λ o. indicator (exists (lives_at T o) (is_on (view_of pay.kind) T) pay.body)) (λ o. pos 1) same
+        sym (int_sum_over-pos (outcomes T U b.lives)
+        (λ o. cond (exists (lives_at T o) (is_on (view_of pay.kind) T) pay.body) (weight b.lives o) 0))
+        ∙ int_sum_over-ext (outcomes T U b.lives) _ _
+        (λ o. sym (weighed (weight b.lives o) (exists (lives_at T o) (is_on (view_of pay.kind) T) pay.body)))
+        ∙ expected-where T U b.lives
+        (λ o. indicator (exists (lives_at T o) (is_on (view_of pay.kind) T) pay.body)) (λ o. pos 1) same
         ∙ int_sum_over-ext (outcomes T U b.lives) _ (λ o. pos (weight b.lives o)) (λ o. whole (weight b.lives o))
         ∙ int_sum_over-pos (outcomes T U b.lives) (weight b.lives)
         ∙ ap pos (weights-add T U b.lives rule)

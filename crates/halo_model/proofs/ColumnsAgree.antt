@@ -27,15 +27,22 @@ product-constant c zero first = sym (pow-zero c)
 product-constant c (suc count) first = ap (λ n. c * n) (product-constant c count (suc first)) ∙ sym (pow-succ' c count)
 
 -- sums over numbers from a later first one
-sum-later : (first count : ℕ) (f : ℕ → ℕ) → sum_over (numbers_from first count) f ≡ sum_over (numbers_from 0 count) (λ t. f (first + t))
+sum-later : (first count : ℕ) (f : ℕ → ℕ)
+    → sum_over (numbers_from first count) f ≡ sum_over (numbers_from 0 count) (λ t. f (first + t))
 sum-later zero count f = sum_over-ext (numbers_from 0 count) _ _ (λ t. ap f (omega arith))
-sum-later (suc first) count f = sum_over-numbers_next count first f ∙ sum-later first count (λ i. f (suc i)) ∙ sum_over-ext (numbers_from 0 count) _ _ (λ t. ap f (omega arith))
+sum-later (suc first) count f = sum_over-numbers_next count first f
+    ∙ sum-later first count (λ i. f (suc i)) ∙ sum_over-ext (numbers_from 0 count) _ _ (λ t. ap f (omega arith))
 
 -- equal at each of the numbers, equal in sum
-sum-within : (count first : ℕ) (f g : ℕ → ℕ) → ((i : ℕ) → first ≤ i → i < first + count → f i ≡ g i) → sum_over (numbers_from first count) f ≡ sum_over (numbers_from first count) g
+sum-within : (count first : ℕ) (f g : ℕ → ℕ) → ((i : ℕ) → first ≤ i → i < first + count → f i ≡ g i)
+    → sum_over (numbers_from first count) f ≡ sum_over (numbers_from first count) g
 sum-within zero first f g same = refl
 sum-within (suc count) first f g same =
-    omega (arith, same first (omega arith) (omega arith), sum-within count (suc first) f g (λ i from to. same i (omega arith) (omega arith)))
+    omega (
+      arith,
+      same first (omega arith) (omega arith),
+      sum-within count (suc first) f g (λ i from to. same i (omega arith) (omega arith)),
+    )
 
 -- with one fraction of interest, discounts and interest are powers
 module _ (p q last_time : ℕ) (lives : List PlainLife) (ties : Ties) where
@@ -43,10 +50,12 @@ module _ (p q last_time : ℕ) (lives : List PlainLife) (ties : Ties) where
   level_basis = record { p = λ k. p; q = λ k. q; last_time = last_time; lives = lives; ties = ties }
 
   discounted-is : (t : ℕ) → discounted level_basis 0 t ≡ q ^ t * (p + q) ^ (last_time - t)
-  discounted-is t = let years : t - 0 ≡ t = omega arith in rw (years, product-constant q t 0, product-constant (p + q) (last_time - t) t) refl
+  discounted-is t = let years : t - 0 ≡ t = omega arith in
+      rw (years, product-constant q t 0, product-constant (p + q) (last_time - t) t) refl
 
   accumulated-is : accumulated level_basis 0 ≡ (p + q) ^ last_time
-  accumulated-is = let years : last_time - 0 ≡ last_time = omega arith in rw (years, product-constant (p + q) last_time 0) refl
+  accumulated-is = let years : last_time - 0 ≡ last_time = omega arith in
+      rw (years, product-constant (p + q) last_time 0) refl
 
 -- discounts from age x for t years, in two kinds of parts
 powers-meet : (q s last_time end x t : ℕ) → t ≤ last_time → x + t ≤ end
@@ -69,14 +78,22 @@ module _ (p q : ℕ) (file : TableFile) (table age last_time : ℕ) (ties : Ties
   abbrev c : ColumnBasis
   c = record { p = λ k. p; q = λ k. q; file = file; table = table }
 
-  discounts-meet : (t : ℕ) → t ≤ last_time → age + t ≤ end_age c → discounted b 0 t * discount_power c age ≡ discount_power c (age + t) * accumulated b 0
+  discounts-meet : (t : ℕ) → t ≤ last_time
+      → age + t ≤ end_age c → discounted b 0 t * discount_power c age ≡ discount_power c (age + t) * accumulated b 0
   unfolding discount_power
   discounts-meet t within on_table =
-      rw (discounted-is p q last_time (x ∷ []) ties t, accumulated-is p q last_time (x ∷ []) ties, discounted-is p q (end_age c) [] declared_order age, discounted-is p q (end_age c) [] declared_order (age + t))
+      rw (
+        discounted-is p q last_time (x ∷ []) ties t,
+        accumulated-is p q last_time (x ∷ []) ties,
+        discounted-is p q
+            (end_age c) [] declared_order age,
+        discounted-is p q (end_age c) [] declared_order (age + t),
+      )
       (powers-meet q (p + q) last_time (end_age c) age t within on_table)
 
   -- a sum of present values over some years is the sum of the column from the age on
-  sums-meet : (present column : ℕ → ℕ) (d den : ℕ) → ((t : ℕ) → t < x.years_left → present t * d ≡ column (age + t) * den)
+  sums-meet : (present column : ℕ → ℕ) (d den : ℕ)
+      → ((t : ℕ) → t < x.years_left → present t * d ≡ column (age + t) * den)
       → sum_over (numbers_from 0 x.years_left) present * d ≡ sum_from c column age * den
   sums-meet present column d den each =
       sym (sum_over-scale_right (numbers_from 0 x.years_left) d present)
@@ -94,29 +111,42 @@ module _ (p q : ℕ) (file : TableFile) (table age last_time : ℕ) (ties : Ties
     start : x.survivors 0 ≡ survivors c age
     start = ap (survivors c) (omega arith)
 
-    due-sum : numerator b (plain Due (life 0)) 0 all_lives ≡ sum_over (numbers_from 0 x.years_left) (λ t. discounted b 0 t * x.survivors t)
+    due-sum : numerator b (plain Due (life 0)) 0 all_lives
+        ≡ sum_over (numbers_from 0 x.years_left) (λ t. discounted b 0 t * x.survivors t)
     due-sum =
         let years : x.years_left + (suc last_time - x.years_left) ≡ suc last_time = omega arith in
         (due-on-one-life b x refl rule (plain Due (life 0)) refl refl refl).num
-        ∙ sum_over-ext (numbers_from 0 (suc last_time)) _ (λ t. discounted b 0 t * x.survivors t) (λ t. from-start t (1 * 1 * discounted b 0 t * x.survivors t) ∙ omega arith)
+        ∙ sum_over-ext (numbers_from 0 (suc last_time)) _ (λ t. discounted b 0 t * x.survivors t)
+        (λ t. from-start t (1 * 1 * discounted b 0 t * x.survivors t) ∙ omega arith)
         ∙ ap (λ n. sum_over (numbers_from 0 n) (λ t. discounted b 0 t * x.survivors t)) (sym years)
-        ∙ ap (λ ts. sum_over ts (λ t. discounted b 0 t * x.survivors t)) (numbers_from-split x.years_left (suc last_time - x.years_left))
+        ∙ ap (λ ts. sum_over ts (λ t. discounted b 0 t * x.survivors t))
+        (numbers_from-split x.years_left (suc last_time - x.years_left))
         ∙ sum_over-append (numbers_from 0 x.years_left) (numbers_from x.years_left (suc last_time - x.years_left)) _
-        ∙ omega (arith, sum_over-numbers_none (suc last_time - x.years_left) x.years_left (λ t. discounted b 0 t * x.survivors t) (λ t from. rw (rule.ends t from) (omega arith)))
+        ∙ omega (
+          arith,
+          sum_over-numbers_none (suc last_time - x.years_left) x.years_left
+              (λ t. discounted b 0 t * x.survivors t) (λ t from. rw (rule.ends t from) (omega arith)),
+        )
 
-    insurance-sum : numerator b (plain Insurance (life 0)) 0 all_lives ≡ sum_over (numbers_from 0 x.years_left) (λ k. discounted b 0 (suc k) * leavers c (age + k))
+    insurance-sum : numerator b (plain Insurance (life 0)) 0 all_lives
+        ≡ sum_over (numbers_from 0 x.years_left) (λ k. discounted b 0 (suc k) * leavers c (age + k))
     insurance-sum =
         (insurance-on-one-life b x refl (plain Insurance (life 0)) refl refl refl).num
-        ∙ sum_over-ext (numbers_from 0 x.years_left) _ _ (λ k. from-start k (1 * 1 * discounted b 0 (suc k) * leavers c (age + k)) ∙ omega arith)
+        ∙ sum_over-ext (numbers_from 0 x.years_left) _ _
+        (λ k. from-start k (1 * 1 * discounted b 0 (suc k) * leavers c (age + k)) ∙ omega arith)
 
     den-is : denominator b 0 all_lives ≡ survivors c age * accumulated b 0
-    den-is = (due-on-one-life b x refl rule (plain Due (life 0)) refl refl refl).den ∙ ap (λ n. n * accumulated b 0) start
+    den-is = (due-on-one-life b x refl rule (plain Due (life 0)) refl refl refl).den
+        ∙ ap (λ n. n * accumulated b 0) start
 
     columns-agree : ColumnsAgree b c age
     columns-agree = record {
-      due = rw (due-sum, den-is) (sums-meet (λ t. discounted b 0 t * x.survivors t) (column_d c) (column_d c age) (survivors c age * accumulated b 0)
-          (λ t before. let e = discounts-meet t (omega arith) (omega arith) in omega (arith, ap (λ n. n * (survivors c (age + t) * survivors c age)) e)));
-      insurance = rw (insurance-sum, den-is) (sums-meet (λ k. discounted b 0 (suc k) * leavers c (age + k)) (column_c c) (column_d c age) (survivors c age * accumulated b 0)
+      due = rw (due-sum, den-is) (sums-meet
+          (λ t. discounted b 0 t * x.survivors t) (column_d c) (column_d c age) (survivors c age * accumulated b 0)
+          (λ t before. let e = discounts-meet t (omega arith) (omega arith) in
+          omega (arith, ap (λ n. n * (survivors c (age + t) * survivors c age)) e)));
+      insurance = rw (insurance-sum, den-is) (sums-meet (λ k. discounted b 0 (suc k) * leavers c (age + k))
+          (column_c c) (column_d c age) (survivors c age * accumulated b 0)
           (λ k before.
           let next : age + suc k ≡ age + k + 1 = omega arith in
           let e : discounted b 0 (suc k) * discount_power c age ≡ discount_power c (age + k + 1) * accumulated b 0
@@ -125,4 +155,5 @@ module _ (p q : ℕ) (file : TableFile) (table age last_time : ℕ) (ties : Ties
     }
 
 pub columns-agree-on-one-life : ColumnsAgreeOnOneLife
-columns-agree-on-one-life p q file table age last_time ties sound row within = columns-agree p q file table age last_time ties sound row within
+columns-agree-on-one-life p q file table age last_time ties sound row within =
+    columns-agree p q file table age last_time ties sound row within

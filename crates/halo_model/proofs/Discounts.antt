@@ -11,7 +11,8 @@ use Rattle.halo_model.specs.Basis.{Basis, accumulated, discounted}
 
 module _ (b : Basis) where
   -- the interest of all years is that of the first years and that of the others
-  pub accumulated-split : (t : ℕ) → t ≤ b.last_time → accumulated b 0 ≡ product_over (numbers_from 0 t) (λ k. b.p k + b.q k) * accumulated b t
+  pub accumulated-split : (t : ℕ)
+      → t ≤ b.last_time → accumulated b 0 ≡ product_over (numbers_from 0 t) (λ k. b.p k + b.q k) * accumulated b t
   accumulated-split t within =
       let years : b.last_time - 0 ≡ t + (b.last_time - t) = omega arith in
       ap (λ n. product_over (numbers_from 0 n) (λ k. b.p k + b.q k)) years
@@ -19,11 +20,14 @@ module _ (b : Basis) where
       ∙ product_over-append (numbers_from 0 t) (numbers_from t (b.last_time - t)) (λ k. b.p k + b.q k)
 
   pub discounted-at_start : (t : ℕ) → discounted b 0 t ≡ product_over (numbers_from 0 t) b.q * accumulated b t
-  discounted-at_start t = let years : t - 0 ≡ t = omega arith in ap (λ n. product_over (numbers_from 0 n) b.q * accumulated b t) years
+  discounted-at_start t = let years : t - 0 ≡ t = omega arith in
+      ap (λ n. product_over (numbers_from 0 n) b.q * accumulated b t) years
 
   -- a fraction of the product of the discounts of t years, times a count
   pub discount-encloses : (t count : ℕ) → t ≤ b.last_time → (i : Ends)
-      → Encloses i (pos (product_over (numbers_from 0 t) b.q * count)) (product_over (numbers_from 0 t) (λ k. b.p k + b.q k))
+      → Encloses i
+      (pos (product_over (numbers_from 0 t) b.q * count)) (product_over (numbers_from 0 t) (λ k. b.p k + b.q k))
       → Encloses i (pos (discounted b 0 t * count)) (accumulated b 0)
   discount-encloses t count within i p =
-      encloses_at i _ _ _ _ (accumulated b t) p (rw (discounted-at_start t) (omega (arith, ints))) (accumulated-split t within)
+      encloses_at i _ _ _ _
+      (accumulated b t) p (rw (discounted-at_start t) (omega (arith, ints))) (accumulated-split t within)

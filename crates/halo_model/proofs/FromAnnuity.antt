@@ -35,22 +35,29 @@ use Rattle.halo_model.proofs.Weights.{weights-add}
 -- summation by parts
 module _ (d w e : ℕ → ℤ) where
   step : (d0 d1 w0 w1 e0 : ℤ) → d0 ≡ e0 +ℤ d1 → d1 *ℤ (w0 -ℤ w1) ≡ d0 *ℤ w0 -ℤ d1 *ℤ w1 -ℤ e0 *ℤ w0
-  step d0 d1 w0 w1 e0 h = rw h (mul_sub d1 w0 w1 ∙ balance (d1 *ℤ w0) (d1 *ℤ w1) (e0 *ℤ w0) ∙ ap (λ z. z -ℤ d1 *ℤ w1 -ℤ e0 *ℤ w0) (sym (add_mul e0 d1 w0)))
+  step d0 d1 w0 w1 e0 h = rw h (mul_sub d1 w0 w1
+      ∙ balance (d1 *ℤ w0) (d1 *ℤ w1) (e0 *ℤ w0) ∙ ap (λ z. z -ℤ d1 *ℤ w1 -ℤ e0 *ℤ w0) (sym (add_mul e0 d1 w0)))
     where
       balance : (x y z : ℤ) → x -ℤ y ≡ (z +ℤ x) -ℤ y -ℤ z
       balance x y z = omega (arith, ints)
 
   by-parts : (count first : ℕ) → ((k : ℕ) → first ≤ k → k < first + count → d k ≡ e k +ℤ d (suc k))
-      → int_sum_over (numbers_from first count) (λ k. d (suc k) *ℤ (w k -ℤ w (suc k))) ≡ d first *ℤ w first -ℤ d (first + count) *ℤ w (first + count) -ℤ int_sum_over (numbers_from first count) (λ k. e k *ℤ w k)
+      → int_sum_over (numbers_from first count) (λ k. d (suc k) *ℤ (w k -ℤ w (suc k))) ≡ d first *ℤ w first
+      -ℤ d (first + count) *ℤ w (first + count) -ℤ int_sum_over (numbers_from first count) (λ k. e k *ℤ w k)
   by-parts zero first falls = let same : first ≡ first + 0 = omega arith in rw (← same) (nothing (d first *ℤ w first))
     where
       nothing : (z : ℤ) → pos 0 ≡ z -ℤ z -ℤ pos 0
       nothing z = omega (arith, ints)
   by-parts (suc count) first falls =
-      ap (λ z. z +ℤ int_sum_over (numbers_from (suc first) count) (λ k. d (suc k) *ℤ (w k -ℤ w (suc k)))) (step (d first) (d (suc first)) (w first) (w (suc first)) (e first) (falls first (omega arith) (omega arith)))
-      ∙ ap (λ z. d first *ℤ w first -ℤ d (suc first) *ℤ w (suc first) -ℤ e first *ℤ w first +ℤ z) (by-parts count (suc first) (λ k from within. falls k (omega arith) (omega (arith, within))))
-      ∙ join (d first *ℤ w first) (d (suc first) *ℤ w (suc first)) (e first *ℤ w first) (d (suc first + count) *ℤ w (suc first + count)) (int_sum_over (numbers_from (suc first) count) (λ k. e k *ℤ w k))
-      ∙ ap (λ n. d first *ℤ w first -ℤ d n *ℤ w n -ℤ (e first *ℤ w first +ℤ int_sum_over (numbers_from (suc first) count) (λ k. e k *ℤ w k))) last
+      ap (λ z. z +ℤ int_sum_over (numbers_from (suc first) count) (λ k. d (suc k) *ℤ (w k -ℤ w (suc k))))
+      (step (d first) (d (suc first)) (w first) (w (suc first)) (e first) (falls first (omega arith) (omega arith)))
+      ∙ ap (λ z. d first *ℤ w first -ℤ d (suc first) *ℤ w (suc first) -ℤ e first *ℤ w first +ℤ z)
+      (by-parts count (suc first) (λ k from within. falls k (omega arith) (omega (arith, within))))
+      ∙ join (d first *ℤ w first)
+      (d (suc first) *ℤ w (suc first)) (e first *ℤ w first) (d (suc first + count) *ℤ w (suc first + count))
+      (int_sum_over (numbers_from (suc first) count) (λ k. e k *ℤ w k))
+      ∙ ap (λ n. d first *ℤ w first
+      -ℤ d n *ℤ w n -ℤ (e first *ℤ w first +ℤ int_sum_over (numbers_from (suc first) count) (λ k. e k *ℤ w k))) last
     where
       last : suc first + count ≡ first + suc count
       last = omega arith
@@ -78,27 +85,33 @@ module _ (b : Basis) where
   early-next k =
       let long : suc k ≡ k + 1 = omega arith in
       ap (λ n. product_over (numbers_from 0 n) b.q) long ∙ ap (λ ks. product_over ks b.q) (numbers_from-add k 1 0)
-      ∙ product_over-append (numbers_from 0 k) (numbers_from (0 + k) 1) b.q ∙ ap (λ n. early k * n) (single (0 + k) (omega arith))
+      ∙ product_over-append (numbers_from 0 k) (numbers_from (0 + k) 1) b.q
+      ∙ ap (λ n. early k * n) (single (0 + k) (omega arith))
     where
       single : (n : ℕ) → n ≡ k → b.q n * 1 ≡ b.q k
       single n e = rw e (omega arith)
 
   accumulated-next : (k : ℕ) → k < b.last_time → accumulated b k ≡ (b.p k + b.q k) * accumulated b (suc k)
-  accumulated-next k before = let e : b.last_time - k ≡ suc (b.last_time - suc k) = omega arith in ap (λ n. product_over (numbers_from k n) (λ k. b.p k + b.q k)) e
+  accumulated-next k before = let e : b.last_time - k ≡ suc (b.last_time - suc k) = omega arith in
+      ap (λ n. product_over (numbers_from k n) (λ k. b.p k + b.q k)) e
 
   now-falls : (k : ℕ) → k < b.last_time → now k ≡ lost k + now (suc k)
-  now-falls k before = now-is k ∙ ap (λ n. early k * n) (accumulated-next k before) ∙ spread (early k) (b.p k) (b.q k) (accumulated b (suc k)) ∙ ap (λ n. lost k + n) (ap (λ n. n * accumulated b (suc k)) (sym (early-next k)) ∙ sym (now-is (suc k)))
+  now-falls k before = now-is k
+      ∙ ap (λ n. early k * n) (accumulated-next k before) ∙ spread (early k) (b.p k) (b.q k) (accumulated b (suc k))
+      ∙ ap (λ n. lost k + n) (ap (λ n. n * accumulated b (suc k)) (sym (early-next k)) ∙ sym (now-is (suc k)))
     where
       spread : (x p q a : ℕ) → x * ((p + q) * a) ≡ x * (p * a) + x * q * a
       spread x p q a = omega arith
 
   lost-is-share : (k : ℕ) → k < b.last_time → lost k * (b.p k + b.q k) ≡ b.p k * now k
-  lost-is-share k before = turn (early k) (b.p k) (b.p k + b.q k) (accumulated b (suc k)) ∙ ap (λ n. b.p k * n) (ap (λ n. early k * n) (sym (accumulated-next k before)) ∙ sym (now-is k))
+  lost-is-share k before = turn (early k) (b.p k) (b.p k + b.q k) (accumulated b (suc k))
+      ∙ ap (λ n. b.p k * n) (ap (λ n. early k * n) (sym (accumulated-next k before)) ∙ sym (now-is k))
     where
       turn : (x p r a : ℕ) → x * (p * a) * r ≡ p * (x * (r * a))
       turn x p r a = omega arith
 
-module _ (b : Basis) (rule : AreLives b.lives) (end : EndBy b.last_time b.lives) (pay : PlainPay) (is : IsValidInsurance pay) (plain : pay.mark ≡ None)
+module _ (b : Basis) (rule : AreLives b.lives)
+    (end : EndBy b.last_time b.lives) (pay : PlainPay) (is : IsValidInsurance pay) (plain : pay.mark ≡ None)
     (level : pay.vary ≡ Level) (undeferred : pay.defer ≡ 0) (one : pay.amount ≡ 1) where
   abbrev exists_weight : ℕ → ℤ
   exists_weight k = existing_weight b pay 0 all_lives k
@@ -106,13 +119,18 @@ module _ (b : Basis) (rule : AreLives b.lives) (end : EndBy b.last_time b.lives)
   -- the body exists at the start, and no more at the last time
   at-start : NamesLivesBelow (length b.lives) pay.body → exists_weight 0 ≡ pos (joint_survivors 0 all_lives b.lives)
   at-start below = sym (exists-weight b rule pay plain DueView (ap view_of is.kind) 0 all_lives 0 (omega arith))
-      ∙ expected-where 0 all_lives b.lives (λ o. indicator (exists (lives_at 0 o) (is_on DueView 0) pay.body)) (λ o. pos 1) (λ o comes. ap indicator (exists-at-start pay is 0 all_lives b.lives o comes below (λ i. refl)))
+      ∙ expected-where 0 all_lives b.lives (λ o. indicator (exists (lives_at 0 o) (is_on DueView 0) pay.body))
+      (λ o. pos 1) (λ o comes. ap indicator (exists-at-start pay is 0 all_lives b.lives o comes below (λ i. refl)))
       ∙ sym (expected-pos 0 all_lives b.lives (λ o. 1))
-      ∙ ap pos (sum_over-ext (outcomes 0 all_lives b.lives) (λ o. weight b.lives o * 1) (λ o. weight b.lives o) (λ o. omega arith) ∙ weights-add 0 all_lives b.lives rule)
+      ∙ ap pos (sum_over-ext (outcomes 0 all_lives b.lives)
+      (λ o. weight b.lives o * 1) (λ o. weight b.lives o) (λ o. omega arith) ∙ weights-add 0 all_lives b.lives rule)
 
   at-last : ((n : ℕ) → IsTrue (names_term n pay.body) → n ≤ b.last_time) → exists_weight b.last_time ≡ pos 0
-  at-last short = sym (exists-weight b rule pay plain DueView (ap view_of is.kind) 0 all_lives b.last_time (omega arith))
-      ∙ expected-where 0 all_lives b.lives (λ o. indicator (exists (lives_at b.last_time o) (is_on DueView b.last_time) pay.body)) (λ o. pos 0) (λ o comes. ap indicator (fallen-at-last pay is 0 all_lives b.lives o comes b.last_time end short))
+  at-last short =
+      sym (exists-weight b rule pay plain DueView (ap view_of is.kind) 0 all_lives b.last_time (omega arith))
+      ∙ expected-where 0 all_lives b.lives
+      (λ o. indicator (exists (lives_at b.last_time o) (is_on DueView b.last_time) pay.body)) (λ o. pos 0)
+      (λ o comes. ap indicator (fallen-at-last pay is 0 all_lives b.lives o comes b.last_time end short))
       ∙ expected-none 0 all_lives b.lives
 
   pays-one : (passed : ℕ) → payment pay passed ≡ 1
@@ -122,8 +140,10 @@ module _ (b : Basis) (rule : AreLives b.lives) (end : EndBy b.last_time b.lives)
   from-zero k = grind (arith, nat_tests)
 
   year-is : (k : ℕ) → year_part b pay 0 all_lives k ≡ pos (now b (suc k)) *ℤ (exists_weight k -ℤ exists_weight (suc k))
-  year-is k = ap (λ due. cond due (pos (paid_for_year b pay 0 k) *ℤ (exists_weight k -ℤ exists_weight (suc k))) (pos 0)) allowed
-      ∙ ap (λ n. pos (n * now b (suc k)) *ℤ (exists_weight k -ℤ exists_weight (suc k))) (pays-one (k - pay.defer)) ∙ ap (λ n. pos n *ℤ (exists_weight k -ℤ exists_weight (suc k))) (once (now b (suc k)))
+  year-is k =
+      ap (λ due. cond due (pos (paid_for_year b pay 0 k) *ℤ (exists_weight k -ℤ exists_weight (suc k))) (pos 0)) allowed
+      ∙ ap (λ n. pos (n * now b (suc k)) *ℤ (exists_weight k -ℤ exists_weight (suc k))) (pays-one (k - pay.defer))
+      ∙ ap (λ n. pos n *ℤ (exists_weight k -ℤ exists_weight (suc k))) (once (now b (suc k)))
     where
       allowed : (nat_le pay.defer k && nat_le 0 k) ≡ true
       allowed = rw (undeferred, from-zero k) refl
@@ -133,7 +153,8 @@ module _ (b : Basis) (rule : AreLives b.lives) (end : EndBy b.last_time b.lives)
 
   due-is : (k : ℕ) → due_part b (as_due pay) 0 all_lives k ≡ pos (now b k) *ℤ exists_weight k
   unfolding form
-  due-is k = rw (undeferred, from-zero k, one, level, is.kind) (ap (λ n. pos n *ℤ existing_weight b (as_due pay) 0 all_lives k) (once (now b k)))
+  due-is k = rw (undeferred, from-zero k, one, level, is.kind)
+      (ap (λ n. pos n *ℤ existing_weight b (as_due pay) 0 all_lives k) (once (now b k)))
     where
       once : (n : ℕ) → 1 * n ≡ n
       once n = omega arith
@@ -142,29 +163,41 @@ module _ (b : Basis) (rule : AreLives b.lives) (end : EndBy b.last_time b.lives)
   abbrev quotient : ℕ → ℤ
   quotient k = pos (length (taken b)) *ℤ (pos (lost b k) *ℤ exists_weight k)
 
-  quotient-is-whole : (k : ℕ) → k < b.last_time → quotient k *ℤ pos (b.p k + b.q k) ≡ pos (b.p k) *ℤ due_numerator_at b pay k
+  quotient-is-whole : (k : ℕ)
+      → k < b.last_time → quotient k *ℤ pos (b.p k + b.q k) ≡ pos (b.p k) *ℤ due_numerator_at b pay k
   quotient-is-whole k before = shuffle (pos (length (taken b))) (pos (lost b k)) (exists_weight k) (pos (b.p k + b.q k))
-      ∙ ap (λ z. pos (length (taken b)) *ℤ (z *ℤ exists_weight k)) (sym (pos_mul (lost b k) (b.p k + b.q k)) ∙ ap pos (lost-is-share b k before) ∙ pos_mul (b.p k) (now b k))
+      ∙ ap (λ z. pos (length (taken b)) *ℤ (z *ℤ exists_weight k))
+      (sym (pos_mul (lost b k) (b.p k + b.q k)) ∙ ap pos (lost-is-share b k before) ∙ pos_mul (b.p k) (now b k))
       ∙ ap (λ z. pos (length (taken b)) *ℤ z) (mul_assoc (pos (b.p k)) (pos (now b k)) (exists_weight k))
       ∙ mul_left_comm (pos (length (taken b))) (pos (b.p k)) (pos (now b k) *ℤ exists_weight k)
       ∙ ap (λ z. pos (b.p k) *ℤ (pos (length (taken b)) *ℤ z)) (sym (due-is k))
     where
       shuffle : (n l w r : ℤ) → n *ℤ (l *ℤ w) *ℤ r ≡ n *ℤ (l *ℤ r *ℤ w)
-      shuffle n l w r = mul_assoc n (l *ℤ w) r ∙ ap (λ z. n *ℤ z) (mul_assoc l w r ∙ ap (λ z. l *ℤ z) (mul_comm w r) ∙ sym (mul_assoc l r w))
+      shuffle n l w r = mul_assoc n (l *ℤ w) r
+          ∙ ap (λ z. n *ℤ z) (mul_assoc l w r ∙ ap (λ z. l *ℤ z) (mul_comm w r) ∙ sym (mul_assoc l r w))
 
-  value-is : pay.causes ≡ None → NamesLivesBelow (length b.lives) pay.body → ((n : ℕ) → IsTrue (names_term n pay.body) → n ≤ b.last_time)
-      → pos (numerator b pay 0 all_lives) ≡ pos (denominator b 0 all_lives) -ℤ int_sum_over (numbers_from 0 b.last_time) quotient
+  value-is : pay.causes ≡ None
+      → NamesLivesBelow (length b.lives) pay.body → ((n : ℕ) → IsTrue (names_term n pay.body) → n ≤ b.last_time)
+      → pos (numerator b pay 0 all_lives)
+      ≡ pos (denominator b 0 all_lives) -ℤ int_sum_over (numbers_from 0 b.last_time) quotient
   unfolding denominator
   value-is any_cause below short =
       insurance-by-years b rule end pay is.kind plain any_cause (is.valid.lasting is.kind) 0 all_lives
-      ∙ ap (λ z. pos (length (taken b)) *ℤ z) (int_sum_over-ext (numbers_from 0 b.last_time) _ _ year-is ∙ by-parts (λ k. pos (now b k)) exists_weight (λ k. pos (lost b k)) b.last_time 0 falls)
-      ∙ ap (λ n. pos (length (taken b)) *ℤ (pos (now b 0) *ℤ exists_weight 0 -ℤ pos (now b n) *ℤ exists_weight n -ℤ shares)) (omega arith)
-      ∙ ap (λ z. pos (length (taken b)) *ℤ (pos (now b 0) *ℤ exists_weight 0 -ℤ pos (now b b.last_time) *ℤ z -ℤ shares)) (at-last short)
-      ∙ ap (λ z. pos (length (taken b)) *ℤ (pos (now b 0) *ℤ z -ℤ pos (now b b.last_time) *ℤ pos 0 -ℤ shares)) (at-start below)
-      ∙ ap (λ z. pos (length (taken b)) *ℤ (z -ℤ shares)) (whole (pos (now b b.last_time)) (pos (now b 0)) (pos (joint_survivors 0 all_lives b.lives)))
+      ∙ ap (λ z. pos (length (taken b)) *ℤ z) (int_sum_over-ext (numbers_from 0 b.last_time) _ _ year-is
+      ∙ by-parts (λ k. pos (now b k)) exists_weight (λ k. pos (lost b k)) b.last_time 0 falls)
+      ∙ ap (λ n. pos (length (taken b))
+      *ℤ (pos (now b 0) *ℤ exists_weight 0 -ℤ pos (now b n) *ℤ exists_weight n -ℤ shares)) (omega arith)
+      ∙ ap (λ z. pos (length (taken b)) *ℤ (pos (now b 0) *ℤ exists_weight 0 -ℤ pos (now b b.last_time) *ℤ z -ℤ shares))
+      (at-last short)
+      ∙ ap (λ z. pos (length (taken b)) *ℤ (pos (now b 0) *ℤ z -ℤ pos (now b b.last_time) *ℤ pos 0 -ℤ shares))
+      (at-start below)
+      ∙ ap (λ z. pos (length (taken b)) *ℤ (z -ℤ shares))
+      (whole (pos (now b b.last_time)) (pos (now b 0)) (pos (joint_survivors 0 all_lives b.lives)))
       ∙ mul_sub (pos (length (taken b))) (pos (now b 0) *ℤ pos (joint_survivors 0 all_lives b.lives)) shares
       ∙ ap (λ z. z -ℤ pos (length (taken b)) *ℤ shares) first
-      ∙ ap (λ z. pos (length (taken b) * (joint_survivors 0 all_lives b.lives * accumulated b 0)) -ℤ z) (sym (int_sum_over-scale (numbers_from 0 b.last_time) (pos (length (taken b))) (λ k. pos (lost b k) *ℤ exists_weight k)))
+      ∙ ap (λ z. pos (length (taken b) * (joint_survivors 0 all_lives b.lives * accumulated b 0)) -ℤ z)
+      (sym (int_sum_over-scale
+      (numbers_from 0 b.last_time) (pos (length (taken b))) (λ k. pos (lost b k) *ℤ exists_weight k)))
     where
       shares : ℤ
       shares = int_sum_over (numbers_from 0 b.last_time) (λ k. pos (lost b k) *ℤ exists_weight k)
@@ -181,15 +214,22 @@ module _ (b : Basis) (rule : AreLives b.lives) (end : EndBy b.last_time b.lives)
           less : (z : ℤ) → z -ℤ pos 0 ≡ z
           less z = omega (arith, ints)
 
-      first : pos (length (taken b)) *ℤ (pos (now b 0) *ℤ pos (joint_survivors 0 all_lives b.lives)) ≡ pos (length (taken b) * (joint_survivors 0 all_lives b.lives * accumulated b 0))
-      first = ap (λ n. pos (length (taken b)) *ℤ (pos n *ℤ pos (joint_survivors 0 all_lives b.lives))) (now-is b 0) ∙ place (length (taken b)) (accumulated b 0) (joint_survivors 0 all_lives b.lives)
+      first : pos (length (taken b)) *ℤ (pos (now b 0) *ℤ pos (joint_survivors 0 all_lives b.lives))
+          ≡ pos (length (taken b) * (joint_survivors 0 all_lives b.lives * accumulated b 0))
+      first = ap (λ n. pos (length (taken b)) *ℤ (pos n *ℤ pos (joint_survivors 0 all_lives b.lives))) (now-is b 0)
+          ∙ place (length (taken b)) (accumulated b 0) (joint_survivors 0 all_lives b.lives)
         where
           place : (n a j : ℕ) → pos n *ℤ (pos (1 * a) *ℤ pos j) ≡ pos (n * (j * a))
-          place n a j = ap (λ z. pos n *ℤ z) (sym (pos_mul (1 * a) j)) ∙ sym (pos_mul n (1 * a * j)) ∙ ap pos (turn n a j)
+          place n a j = ap (λ z. pos n *ℤ z) (sym (pos_mul (1 * a) j))
+              ∙ sym (pos_mul n (1 * a * j)) ∙ ap pos (turn n a j)
             where
               turn : (n a j : ℕ) → n * (1 * a * j) ≡ n * (j * a)
               turn n a j = omega arith
 
 pub insurance-from-annuity : InsuranceFromAnnuity
-insurance-from-annuity b rule end pay is plain any_cause level undeferred one below short =
-    (quotient b rule end pay is plain level undeferred one, quotient-is-whole b rule end pay is plain level undeferred one, value-is b rule end pay is plain level undeferred one any_cause below short)
+insurance-from-annuity b rule end pay is plain any_cause level undeferred one below short = (
+  quotient b rule end pay is plain level undeferred one,
+  quotient-is-whole b rule end
+      pay is plain level undeferred one,
+  value-is b rule end pay is plain level undeferred one any_cause below short,
+)

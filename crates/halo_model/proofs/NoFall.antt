@@ -27,24 +27,34 @@ goes-on-whole : (b : Bool) → (b && not b) ≡ false
 goes-on-whole true = refl
 goes-on-whole false = refl
 
-nobody-at : (alive on : ℕ → Bool) (ms : Trees) (p : ℕ) → member_at ms p ≡ None → get_or (each_exists alive on ms) p false ≡ false
+nobody-at : (alive on : ℕ → Bool) (ms : Trees) (p : ℕ)
+    → member_at ms p ≡ None → get_or (each_exists alive on ms) p false ≡ false
 nobody-at alive on none p e = refl
 nobody-at alive on (more s ms) zero e = absurd (cc)
 nobody-at alive on (more s ms) (suc p) e = nobody-at alive on ms p e
 
 -- a part that exists alike before and after does not fail
-part-stays : (alive still_alive on still_on : ℕ → Bool) (mark : Option Mark) (body : Tree) → ((s : Tree) → failing_part mark body ≡ Some s → exists alive on s ≡ exists still_alive still_on s)
+part-stays : (alive still_alive on still_on : ℕ → Bool) (mark : Option Mark) (body : Tree)
+    → ((s : Tree) → failing_part mark body ≡ Some s → exists alive on s ≡ exists still_alive still_on s)
     → fails_by_mark mark body alive on still_alive still_on ≡ false
 part-stays alive still_alive on still_on None body h = rw (← h body refl) (goes-on-whole (exists alive on body))
 part-stays alive still_alive on still_on (Some m) body h = at_member (member_at (members_of body) m.member) refl
   where
-    at_member : (found : Option Tree) → member_at (members_of body) m.member ≡ found → fails_at_rank m (each_exists alive on (members_of body)) (each_exists still_alive still_on (members_of body)) ≡ false
+    at_member : (found : Option Tree) → member_at (members_of body) m.member ≡ found → fails_at_rank m
+        (each_exists alive on (members_of body)) (each_exists still_alive still_on (members_of body)) ≡ false
     at_member None e = rw (nobody-at alive on (members_of body) m.member e) refl
-    at_member (Some s) e = rw (get_or-each_exists alive on (members_of body) m.member s e, get_or-each_exists still_alive still_on (members_of body) m.member s e, ← h s e) (goes-on (exists alive on s) _)
+    at_member (Some s) e = rw (
+      get_or-each_exists alive on (members_of body) m.member s e,
+      get_or-each_exists still_alive still_on (members_of body) m.member s e,
+      ← h s e,
+    ) (goes-on (exists alive on s) _)
 
-not-paid : (pay : PlainPay) (rank : ℕ → ℕ) (T : ℕ) (o : Outcome) (event : Event) → ((s : Tree) → failing_part pay.mark pay.body ≡ Some s → exists (lives_before rank o event) (terms_before event) s ≡ exists (lives_after rank o event) (terms_after event) s)
+not-paid : (pay : PlainPay) (rank : ℕ → ℕ) (T : ℕ) (o : Outcome) (event : Event)
+    → ((s : Tree) → failing_part pay.mark pay.body ≡ Some s → exists (lives_before rank o event) (terms_before event) s
+    ≡ exists (lives_after rank o event) (terms_after event) s)
     → falls_on pay rank T o event ≡ false
-not-paid pay rank T o event h = rw (part-stays (lives_before rank o event) (lives_after rank o event) (terms_before event) (terms_after event) pay.mark pay.body h) (and-false _)
+not-paid pay rank T o event h = rw (part-stays (lives_before rank o event)
+    (lives_after rank o event) (terms_before event) (terms_after event) pay.mark pay.body h) (and-false _)
 
 refused : (d t f : Bool) → (d && t && false && f) ≡ false
 refused true true f = refl
@@ -52,17 +62,25 @@ refused true false f = refl
 refused false t f = refl
 
 -- what does not hold of the part does not hold of it where it is found
-not-of-part : (found : Option Tree) (test : Tree → Bool) → holds_of found test ≡ false → (s : Tree) → found ≡ Some s → test s ≡ false
+not-of-part : (found : Option Tree) (test : Tree → Bool)
+    → holds_of found test ≡ false → (s : Tree) → found ≡ Some s → test s ≡ false
 not-of-part None test e s q = absurd (cc)
 not-of-part (Some t) test e s q = let same : t ≡ s = grind arith in rw (← same) e
 
 module _ (pay : PlainPay) (rank : ℕ → ℕ) (T : ℕ) (S : ℕ → Bool) (lives : List PlainLife) where
-  no-leaving : (a k : ℕ) → can_fall_on_life pay a ≡ false → (o : Outcome) (way : Option Exit) → indicator (paid_at_exit pay rank T a k o way) ≡ pos 0
+  no-leaving : (a k : ℕ) → can_fall_on_life pay a ≡ false
+      → (o : Outcome) (way : Option Exit) → indicator (paid_at_exit pay rank T a k o way) ≡ pos 0
   no-leaving a k silent o None = refl
-  no-leaving a k silent o (Some x) = rw (not-paid pay rank T o (leaves a x) (λ s at. unnamed-at-leaving rank o a x s (not-of-part (failing_part pay.mark pay.body) (names_life a) silent s at)), and-false (nat_eq x.year k)) refl
+  no-leaving a k silent o (Some x) = rw (
+    not-paid pay rank T o (leaves a x) (λ s at. unnamed-at-leaving rank o a x s
+        (not-of-part (failing_part pay.mark pay.body) (names_life a) silent s at)),
+    and-false (nat_eq x.year k),
+  ) refl
 
-  pub no-chance-on-leaving : (a k : ℕ) → can_fall_on_life pay a ≡ false → expected T S lives (λ o. indicator (paid_on_leaving pay rank T a k o)) ≡ pos 0
-  no-chance-on-leaving a k silent = int_sum_over-ext (outcomes T S lives) _ _ (λ o. ap (λ z. pos (weight lives o) *ℤ z) (no-leaving a k silent o (get_or o a None))) ∙ expected-none T S lives
+  pub no-chance-on-leaving : (a k : ℕ)
+      → can_fall_on_life pay a ≡ false → expected T S lives (λ o. indicator (paid_on_leaving pay rank T a k o)) ≡ pos 0
+  no-chance-on-leaving a k silent = int_sum_over-ext (outcomes T S lives) _ _
+      (λ o. ap (λ z. pos (weight lives o) *ℤ z) (no-leaving a k silent o (get_or o a None))) ∙ expected-none T S lives
 
   no-end : (n : ℕ) → can_fall_on_term pay n ≡ false → (o : Outcome) → falls_on pay rank T o (ends n) ≡ false
   no-end n silent o = each (by_cause pay.causes (ends n)) refl
@@ -71,14 +89,19 @@ module _ (pay : PlainPay) (rank : ℕ → ℕ) (T : ℕ) (S : ℕ → Bool) (liv
       unnamed e = (rw e at silent)
 
       each : (by : Bool) → by_cause pay.causes (ends n) ≡ by → falls_on pay rank T o (ends n) ≡ false
-      each true e = not-paid pay rank T o (ends n) (λ s at. unnamed-at-end rank o n s (not-of-part (failing_part pay.mark pay.body) (names_term n) (unnamed e) s at))
-      each false e = rw e (refused (nat_le pay.defer (n - 1)) (nat_le T (n - 1)) (fails_by_mark pay.mark pay.body (lives_before rank o (ends n)) (terms_before (ends n)) (lives_after rank o (ends n)) (terms_after (ends n))))
+      each true e = not-paid pay rank T o (ends n) (λ s at. unnamed-at-end rank o n s
+          (not-of-part (failing_part pay.mark pay.body) (names_term n) (unnamed e) s at))
+      each false e = rw e (refused (nat_le pay.defer (n - 1)) (nat_le T (n - 1)) (fails_by_mark pay.mark pay.body
+          (lives_before rank o (ends n)) (terms_before (ends n)) (lives_after rank o (ends n)) (terms_after (ends n))))
 
-  pub no-chance-on-end : (n : ℕ) → can_fall_on_term pay n ≡ false → expected T S lives (λ o. indicator (falls_on pay rank T o (ends n))) ≡ pos 0
-  no-chance-on-end n silent = int_sum_over-ext (outcomes T S lives) _ _ (λ o. ap (λ b. pos (weight lives o) *ℤ indicator b) (no-end n silent o)) ∙ expected-none T S lives
+  pub no-chance-on-end : (n : ℕ)
+      → can_fall_on_term pay n ≡ false → expected T S lives (λ o. indicator (falls_on pay rank T o (ends n))) ≡ pos 0
+  no-chance-on-end n silent = int_sum_over-ext (outcomes T S lives) _ _
+      (λ o. ap (λ b. pos (weight lives o) *ℤ indicator b) (no-end n silent o)) ∙ expected-none T S lives
 
 -- a payment that can fall on an event is one on the marked member
-pub of-marked : (mark : Option Mark) (body : Tree) (test : Tree → Bool) → holds_of (failing_part mark body) test ≡ true → OfMarked mark body (λ s. IsTrue (test s))
+pub of-marked : (mark : Option Mark) (body : Tree) (test : Tree → Bool)
+    → holds_of (failing_part mark body) test ≡ true → OfMarked mark body (λ s. IsTrue (test s))
 of-marked None body test e = tt
 of-marked (Some m) body test e = at_member (member_at (members_of body) m.member) e
   where
@@ -96,7 +119,8 @@ member-unnamed (more s ms) n zero e = (neither (names_term n s) (any_names_term 
 member-unnamed (more s ms) n (suc p) e = member-unnamed ms n p (neither (names_term n s) (any_names_term n ms) e).1
 
 -- a body that does not name a term has no part that does
-pub part-unnamed : (mark : Option Mark) (body : Tree) (n : ℕ) → names_term n body ≡ false → holds_of (failing_part mark body) (names_term n) ≡ false
+pub part-unnamed : (mark : Option Mark) (body : Tree) (n : ℕ)
+    → names_term n body ≡ false → holds_of (failing_part mark body) (names_term n) ≡ false
 part-unnamed None body n e = e
 part-unnamed (Some m) (joint ms) n e = member-unnamed ms n m.member e
 part-unnamed (Some m) (life i) n e = refl

@@ -1,4 +1,5 @@
--- On each outcome an insurance has at most one payment: a lasting body, or a marked member, fails at most once along the events.
+-- On each outcome an insurance has at most one payment: a lasting body, or a marked member, fails at most once along
+-- the events.
 use Rattle.std.proofs.Common.{◌≡◌, ◌⊎◌, ℕ, zero, suc, ◌+◌, ◌<◌, ◌≤◌, arith, refl, ap, sym, ◌∙◌, List, [], ◌∷◌, ◌++◌, map, filter, length, get_or, Bool, true, false, cond, not, ◌&&◌, nat_le, Option, Some, None, ⊎_elim}
 use Rattle.std.proofs.lemmas.Bool.Decides.{nat_tests}
 use Rattle.std.proofs.lemmas.List.Elements.{All-weaker}
@@ -37,16 +38,23 @@ fell-whole true true e = absurd (cc)
 fell-whole false c e = absurd (cc)
 
 -- where it fails it existed before and does not after
-pub part-fails : (mark : Option Mark) (body : Tree) (alive on still_alive still_on : ℕ → Bool) → fails_by_mark mark body alive on still_alive still_on ≡ true
+pub part-fails : (mark : Option Mark) (body : Tree) (alive on still_alive still_on : ℕ → Bool)
+    → fails_by_mark mark body alive on still_alive still_on ≡ true
     → (part_exists mark body alive on ≡ true) × (part_exists mark body still_alive still_on ≡ false)
-part-fails None body alive on still_alive still_on e = fell-whole (exists alive on body) (exists still_alive still_on body) e
-part-fails (Some m) body alive on still_alive still_on e = fell (get_or (each_exists alive on (members_of body)) m.member false) (get_or (each_exists still_alive still_on (members_of body)) m.member false) _ e
+part-fails None body alive on still_alive still_on e =
+    fell-whole (exists alive on body) (exists still_alive still_on body) e
+part-fails (Some m) body alive on still_alive still_on e =
+    fell (get_or (each_exists alive on (members_of body)) m.member false)
+    (get_or (each_exists still_alive still_on (members_of body)) m.member false) _ e
 
 -- with more lives and more terms it goes on existing
-pub part-lasts : (mark : Option Mark) (body : Tree) → IsLasting body → (alive more_alive on more_on : ℕ → Bool) → IsSubset alive more_alive → IsSubset on more_on
+pub part-lasts : (mark : Option Mark) (body : Tree)
+    → IsLasting body → (alive more_alive on more_on : ℕ → Bool) → IsSubset alive more_alive → IsSubset on more_on
     → part_exists mark body alive on ≡ true → part_exists mark body more_alive more_on ≡ true
-part-lasts None body lasting alive more_alive on more_on lives terms e = lasts alive more_alive on more_on lives terms body lasting e
-part-lasts (Some m) (joint ms) lasting alive more_alive on more_on lives terms e = member-lasts more_alive alive more_on on lives terms ms lasting.1 m.member e
+part-lasts None body lasting alive more_alive on more_on lives terms e =
+    lasts alive more_alive on more_on lives terms body lasting e
+part-lasts (Some m) (joint ms) lasting alive more_alive on more_on lives terms e =
+    member-lasts more_alive alive more_on on lives terms ms lasting.1 m.member e
 part-lasts (Some m) (life i) lasting alive more_alive on more_on lives terms e = absurd (cc)
 part-lasts (Some m) (term n) lasting alive more_alive on more_on lives terms e = absurd (cc)
 part-lasts (Some m) (last ms) lasting alive more_alive on more_on lives terms e = absurd (cc)
@@ -83,15 +91,21 @@ abbrev Exclusive : (Event → Bool) → List Event → Type 0
 Exclusive test [] = Unit {0}
 Exclusive test (e ∷ es) = Each (λ f. test e ≡ true → test f ≡ true → ⊥) es × Exclusive test es
 
-exclusive-append : (test : Event → Bool) (es fs : List Event) → Exclusive test es → Exclusive test fs → Each (λ e. Each (λ f. test e ≡ true → test f ≡ true → ⊥) fs) es → Exclusive test (es ++ fs)
+exclusive-append : (test : Event → Bool) (es fs : List Event) → Exclusive test es
+    → Exclusive test fs → Each (λ e. Each (λ f. test e ≡ true → test f ≡ true → ⊥) fs) es → Exclusive test (es ++ fs)
 exclusive-append test [] fs h k across = k
-exclusive-append test (e ∷ es) fs h k across = (each-append (λ f. test e ≡ true → test f ≡ true → ⊥) es fs h.0 across.0, exclusive-append test es fs h.1 k across.1)
+exclusive-append test (e ∷ es) fs h k across = (
+  each-append (λ f. test e ≡ true → test f ≡ true → ⊥) es fs h.0 across.0,
+  exclusive-append test es fs h.1 k across.1,
+)
 
-pub none-passes : (test : Event → Bool) (es : List Event) → Each (λ e. test e ≡ true → ⊥) es → sum_over es (λ e. cond (test e) 1 0) ≡ 0
+pub none-passes : (test : Event → Bool) (es : List Event)
+    → Each (λ e. test e ≡ true → ⊥) es → sum_over es (λ e. cond (test e) 1 0) ≡ 0
 none-passes test [] h = refl
 none-passes test (e ∷ es) h = each (test e) refl (none-passes test es h.1)
   where
-    each : (b : Bool) → test e ≡ b → sum_over es (λ e. cond (test e) 1 0) ≡ 0 → cond b 1 0 + sum_over es (λ e. cond (test e) 1 0) ≡ 0
+    each : (b : Bool)
+        → test e ≡ b → sum_over es (λ e. cond (test e) 1 0) ≡ 0 → cond b 1 0 + sum_over es (λ e. cond (test e) 1 0) ≡ 0
     each true q rest = absurd (h.0 q)
     each false q rest = omega arith
 
@@ -99,8 +113,13 @@ at-most-one : (test : Event → Bool) (es : List Event) → Exclusive test es �
 at-most-one test [] h = omega arith
 at-most-one test (e ∷ es) h = each (test e) refl (at-most-one test es h.1)
   where
-    each : (b : Bool) → test e ≡ b → sum_over es (λ e. cond (test e) 1 0) ≤ 1 → cond b 1 0 + sum_over es (λ e. cond (test e) 1 0) ≤ 1
-    each true q rest = omega (arith, none-passes test es (each-weaker (λ f. test e ≡ true → test f ≡ true → ⊥) (λ f. test f ≡ true → ⊥) (λ f k. k q) es h.0))
+    each : (b : Bool)
+        → test e ≡ b → sum_over es (λ e. cond (test e) 1 0) ≤ 1 → cond b 1 0 + sum_over es (λ e. cond (test e) 1 0) ≤ 1
+    each true q rest = omega (
+      arith,
+      none-passes test es
+          (each-weaker (λ f. test e ≡ true → test f ≡ true → ⊥) (λ f. test f ≡ true → ⊥) (λ f k. k q) es h.0),
+    )
     each false q rest = omega (arith, rest)
 
 -- a life from some number on leaves as the outcome tells
@@ -117,7 +136,8 @@ leaves-before : (o : Outcome) (i : ℕ) (e : Event) → LeavesFrom o (suc i) e �
 leaves-before o i (leaves a x) h = (omega (arith, h.0), h.1, h.2)
 leaves-before o i (ends n) h = h
 
-pub each-leaving : (o : Outcome) (i : ℕ) (rest : Outcome) → i + length rest ≡ length o → ((j : ℕ) → get_or o (i + j) None ≡ get_or rest j None) → Each (LeavesFrom o i) (leavings i rest)
+pub each-leaving : (o : Outcome) (i : ℕ) (rest : Outcome) → i + length rest ≡ length o
+    → ((j : ℕ) → get_or o (i + j) None ≡ get_or rest j None) → Each (LeavesFrom o i) (leavings i rest)
 each-leaving o i [] len at = tt
 each-leaving o i (way ∷ rest) len at = first way refl (each-leaving o (suc i) rest (omega (arith, len)) next)
   where
@@ -127,19 +147,29 @@ each-leaving o i (way ∷ rest) len at = first way refl (each-leaving o (suc i) 
     here : get_or o i None ≡ way
     here = let e : i ≡ i + 0 = omega arith in ap (λ n. get_or o n None) e ∙ at 0
 
-    first : (w : Option Exit) → way ≡ w → Each (LeavesFrom o (suc i)) (leavings (suc i) rest) → Each (LeavesFrom o i) (leavings i (w ∷ rest))
-    first None q later = each-weaker (LeavesFrom o (suc i)) (LeavesFrom o i) (leaves-before o i) (leavings (suc i) rest) later
-    first (Some x) q later = ((omega arith, omega (arith, len), here ∙ q), each-weaker (LeavesFrom o (suc i)) (LeavesFrom o i) (leaves-before o i) (leavings (suc i) rest) later)
+    first : (w : Option Exit)
+        → way ≡ w → Each (LeavesFrom o (suc i)) (leavings (suc i) rest) → Each (LeavesFrom o i) (leavings i (w ∷ rest))
+    first None q later =
+        each-weaker (LeavesFrom o (suc i)) (LeavesFrom o i) (leaves-before o i) (leavings (suc i) rest) later
+    first (Some x) q later = (
+      (omega arith, omega (arith, len), here ∙ q),
+      each-weaker (LeavesFrom o (suc i)) (LeavesFrom o i) (leaves-before o i) (leavings (suc i) rest) later,
+    )
 
 ends-before : (first bound : ℕ) (e : Event) → EndsFrom (suc first) bound e → EndsFrom first bound e
 ends-before first bound (leaves a x) h = h
 ends-before first bound (ends n) h = (omega (arith, h.0), h.1)
 
-pub each-end : (names : ℕ → Bool) (count first bound : ℕ) → first + count ≤ bound → Each (EndsFrom first bound) (map ends (filter names (numbers_from first count)))
+pub each-end : (names : ℕ → Bool) (count first bound : ℕ)
+    → first + count ≤ bound → Each (EndsFrom first bound) (map ends (filter names (numbers_from first count)))
 each-end names zero first bound within = tt
-each-end names (suc count) first bound within = each (names first) (each-weaker (EndsFrom (suc first) bound) (EndsFrom first bound) (ends-before first bound) (map ends (filter names (numbers_from (suc first) count))) (each-end names count (suc first) bound (omega arith)))
+each-end names (suc count) first bound within =
+    each (names first) (each-weaker (EndsFrom (suc first) bound) (EndsFrom first bound) (ends-before first bound)
+    (map ends (filter names (numbers_from (suc first) count))) (each-end names count (suc first) bound (omega arith)))
   where
-    each : (b : Bool) → Each (EndsFrom first bound) (map ends (filter names (numbers_from (suc first) count))) → Each (EndsFrom first bound) (map ends (cond b (first ∷ filter names (numbers_from (suc first) count)) (filter names (numbers_from (suc first) count))))
+    each : (b : Bool) → Each (EndsFrom first bound) (map ends (filter names (numbers_from (suc first) count)))
+        → Each (EndsFrom first bound) (map ends (cond b
+        (first ∷ filter names (numbers_from (suc first) count)) (filter names (numbers_from (suc first) count))))
     each true rest = ((omega arith, omega arith), rest)
     each false rest = rest
 
@@ -148,13 +178,19 @@ module _ (pay : PlainPay) (lasting : IsLasting pay.body) (rank : ℕ → ℕ) (T
   paid e = falls_on pay rank T o e
 
   -- where a payment falls on an event, what is waited for exists before it and not after it
-  pub paid-fails : (e : Event) → paid e ≡ true → (part_exists pay.mark pay.body (lives_before rank o e) (terms_before e) ≡ true) × (part_exists pay.mark pay.body (lives_after rank o e) (terms_after e) ≡ false)
-  paid-fails e h = part-fails pay.mark pay.body (lives_before rank o e) (terms_before e) (lives_after rank o e) (terms_after e)
-      (last-of (nat_le pay.defer (year_of e)) (nat_le T (year_of e)) (by_cause pay.causes e) (fails_by_mark pay.mark pay.body (lives_before rank o e) (terms_before e) (lives_after rank o e) (terms_after e)) h)
+  pub paid-fails : (e : Event)
+      → paid e ≡ true → (part_exists pay.mark pay.body (lives_before rank o e) (terms_before e) ≡ true)
+      × (part_exists pay.mark pay.body (lives_after rank o e) (terms_after e) ≡ false)
+  paid-fails e h =
+      part-fails pay.mark pay.body (lives_before rank o e) (terms_before e) (lives_after rank o e) (terms_after e)
+      (last-of (nat_le pay.defer (year_of e)) (nat_le T (year_of e)) (by_cause pay.causes e) (fails_by_mark
+      pay.mark pay.body (lives_before rank o e) (terms_before e) (lives_after rank o e) (terms_after e)) h)
 
   -- .. and it comes from T on
   pub paid-when : (e : Event) → paid e ≡ true → T ≤ year_of e
-  paid-when e h = started (nat_le T (year_of e)) refl (second-of (nat_le pay.defer (year_of e)) (nat_le T (year_of e)) (by_cause pay.causes e) (fails_by_mark pay.mark pay.body (lives_before rank o e) (terms_before e) (lives_after rank o e) (terms_after e)) h)
+  paid-when e h = started (nat_le T (year_of e)) refl
+      (second-of (nat_le pay.defer (year_of e)) (nat_le T (year_of e)) (by_cause pay.causes e) (fails_by_mark
+      pay.mark pay.body (lives_before rank o e) (terms_before e) (lives_after rank o e) (terms_after e)) h)
     where
       started : (from : Bool) → nat_le T (year_of e) ≡ from → from ≡ true → T ≤ year_of e
       started true q h = grind (arith, nat_tests)
@@ -162,18 +198,25 @@ module _ (pay : PlainPay) (lasting : IsLasting pay.body) (rank : ℕ → ℕ) (T
 
   not-both : (e f : Event) → IsOn o e → IsOn o f → IsEarlier rank e f → paid e ≡ true → paid f ≡ true → ⊥
   not-both e f on_e on_f earlier h k =
-      let stays = part-lasts pay.mark pay.body lasting (lives_before rank o f) (lives_after rank o e) (terms_before f) (terms_after e) (lives-stay rank o e f on_e earlier) (terms-stay rank o e f on_f earlier) (paid-fails f k).0 in
+      let stays = part-lasts pay.mark pay.body lasting
+      (lives_before rank o f) (lives_after rank o e) (terms_before f) (terms_after e)
+      (lives-stay rank o e f on_e earlier) (terms-stay rank o e f on_f earlier) (paid-fails f k).0 in
       let q : false ≡ true = sym (paid-fails e h).1 ∙ stays in cc
 
-  apart : (e f : Event) → IsOn o e → IsOn o f → IsEarlier rank e f ⊎ IsEarlier rank f e → paid e ≡ true → paid f ≡ true → ⊥
-  apart e f on_e on_f either h k = ⊎_elim (λ before. not-both e f on_e on_f before h k) (λ past. not-both f e on_f on_e past k h) either
+  apart : (e f : Event)
+      → IsOn o e → IsOn o f → IsEarlier rank e f ⊎ IsEarlier rank f e → paid e ≡ true → paid f ≡ true → ⊥
+  apart e f on_e on_f either h k =
+      ⊎_elim (λ before. not-both e f on_e on_f before h k) (λ past. not-both f e on_f on_e past k h) either
 
   module _ (own : HaveOwnRanks rank (length o)) where
-    one-leaving : (i : ℕ) (x : Exit) (f : Event) → i < length o → get_or o i None ≡ Some x → LeavesFrom o (suc i) f → paid (leaves i x) ≡ true → paid f ≡ true → ⊥
+    one-leaving : (i : ℕ) (x : Exit) (f : Event) → i < length o
+        → get_or o i None ≡ Some x → LeavesFrom o (suc i) f → paid (leaves i x) ≡ true → paid f ≡ true → ⊥
     one-leaving i x (ends n) within at h = absurd h
-    one-leaving i x (leaves c y) within at h = apart (leaves i x) (leaves c y) at h.2 (leaving-first rank i c x y (λ e. absurd (let same : i ≡ c = own i c within h.1 e in omega (arith, same, h.0))))
+    one-leaving i x (leaves c y) within at h = apart (leaves i x) (leaves c y) at h.2
+        (leaving-first rank i c x y (λ e. absurd (let same : i ≡ c = own i c within h.1 e in omega (arith, same, h.0))))
 
-    leavings-exclude : (i : ℕ) (rest : Outcome) → i + length rest ≡ length o → ((j : ℕ) → get_or o (i + j) None ≡ get_or rest j None) → Exclusive paid (leavings i rest)
+    leavings-exclude : (i : ℕ) (rest : Outcome) → i + length rest ≡ length o
+        → ((j : ℕ) → get_or o (i + j) None ≡ get_or rest j None) → Exclusive paid (leavings i rest)
     leavings-exclude i [] len at = tt
     leavings-exclude i (way ∷ rest) len at = first way refl (leavings-exclude (suc i) rest (omega (arith, len)) next)
       where
@@ -183,15 +226,22 @@ module _ (pay : PlainPay) (lasting : IsLasting pay.body) (rank : ℕ → ℕ) (T
         here : get_or o i None ≡ way
         here = let e : i ≡ i + 0 = omega arith in ap (λ n. get_or o n None) e ∙ at 0
 
-        first : (w : Option Exit) → way ≡ w → Exclusive paid (leavings (suc i) rest) → Exclusive paid (leavings i (w ∷ rest))
+        first : (w : Option Exit)
+            → way ≡ w → Exclusive paid (leavings (suc i) rest) → Exclusive paid (leavings i (w ∷ rest))
         first None q later = later
-        first (Some x) q later = (each-weaker (LeavesFrom o (suc i)) (λ f. paid (leaves i x) ≡ true → paid f ≡ true → ⊥) (λ f h. one-leaving i x f (omega (arith, len)) (here ∙ q) h) (leavings (suc i) rest) (each-leaving o (suc i) rest (omega (arith, len)) next), later)
+        first (Some x) q later = (
+          each-weaker (LeavesFrom o (suc i)) (λ f. paid (leaves i x) ≡ true → paid f ≡ true → ⊥)
+              (λ f h. one-leaving i x f (omega (arith, len)) (here ∙ q) h)
+              (leavings (suc i) rest) (each-leaving o (suc i) rest (omega (arith, len)) next),
+          later,
+        )
 
     one-end : (n bound : ℕ) (f : Event) → 1 ≤ n → EndsFrom (suc n) bound f → paid (ends n) ≡ true → paid f ≡ true → ⊥
     one-end n bound (leaves a x) from h = absurd h
     one-end n bound (ends m) from h = not-both (ends n) (ends m) from (omega (arith, h.0)) (omega (arith, h.0))
 
-    ends-exclude : (names : ℕ → Bool) (count first : ℕ) → 1 ≤ first → Exclusive paid (map ends (filter names (numbers_from first count)))
+    ends-exclude : (names : ℕ → Bool) (count first : ℕ)
+        → 1 ≤ first → Exclusive paid (map ends (filter names (numbers_from first count)))
     ends-exclude names zero first from = tt
     ends-exclude names (suc count) first from = each (names first) (ends-exclude names count (suc first) (omega arith))
       where
@@ -199,7 +249,12 @@ module _ (pay : PlainPay) (lasting : IsLasting pay.body) (rank : ℕ → ℕ) (T
         later = filter names (numbers_from (suc first) count)
 
         each : (b : Bool) → Exclusive paid (map ends later) → Exclusive paid (map ends (cond b (first ∷ later) later))
-        each true rest = (each-weaker (EndsFrom (suc first) (suc first + count)) (λ f. paid (ends first) ≡ true → paid f ≡ true → ⊥) (λ f h. one-end first (suc first + count) f from h) (map ends later) (each-end names count (suc first) (suc first + count) (omega arith)), rest)
+        each true rest = (
+          each-weaker (EndsFrom (suc first) (suc first + count))
+              (λ f. paid (ends first) ≡ true → paid f ≡ true → ⊥) (λ f h. one-end first (suc first + count) f from h)
+              (map ends later) (each-end names count (suc first) (suc first + count) (omega arith)),
+          rest,
+        )
         each false rest = rest
 
     one-of-both : (bound : ℕ) (e f : Event) → LeavesFrom o 0 e → EndsFrom 1 bound f → paid e ≡ true → paid f ≡ true → ⊥
@@ -211,16 +266,24 @@ module _ (pay : PlainPay) (lasting : IsLasting pay.body) (rank : ℕ → ℕ) (T
     one-payment-by last_time =
         let leaving : List Event = leavings 0 o in
         let ending : List Event = term_ends last_time pay.body in
-        let across = each-weaker (LeavesFrom o 0) (λ e. Each (λ f. paid e ≡ true → paid f ≡ true → ⊥) ending) (λ e h. each-weaker (EndsFrom 1 (1 + last_time)) (λ f. paid e ≡ true → paid f ≡ true → ⊥) (λ f k. one-of-both (1 + last_time) e f h k) ending (each-end (λ n. names_term n pay.body) last_time 1 (1 + last_time) (omega arith))) leaving (each-leaving o 0 o (omega arith) from-start) in
+        let across = each-weaker (LeavesFrom o 0)
+        (λ e. Each (λ f. paid e ≡ true → paid f ≡ true → ⊥) ending) (λ e h. each-weaker (EndsFrom 1 (1 + last_time))
+        (λ f. paid e ≡ true → paid f ≡ true → ⊥) (λ f k. one-of-both (1 + last_time) e f h k) ending
+        (each-end (λ n. names_term n pay.body) last_time 1 (1 + last_time) (omega arith))) leaving
+        (each-leaving o 0 o (omega arith) from-start) in
         omega (
           arith,
           sum_over-append leaving ending (λ e. cond (paid e) 1 0),
-          at-most-one paid (leaving ++ ending) (exclusive-append paid leaving ending (leavings-exclude 0 o (omega arith) from-start) (ends-exclude (λ n. names_term n pay.body) last_time 1 (omega arith)) across),
+          at-most-one paid
+              (leaving ++ ending) (exclusive-append paid leaving ending (leavings-exclude 0 o (omega arith) from-start)
+              (ends-exclude (λ n. names_term n pay.body) last_time 1 (omega arith)) across),
         )
       where
         from-start : (j : ℕ) → get_or o (0 + j) None ≡ get_or o j None
         from-start j = let e : 0 + j ≡ j = omega arith in ap (λ n. get_or o n None) e
 
 pub one-payment : OnePayment
-one-payment b pay is T o len = All-weaker (λ order. HaveOwnRanks (rank_in order) (length b.lives)) (λ order. payments_of pay b.last_time (rank_in order) T o ≤ 1)
-    (λ order own. one-payment-by pay (is.valid.lasting is.kind) (rank_in order) T o (rw len own) b.last_time) (taken b) (orders-give-own-ranks b.ties (length b.lives))
+one-payment b pay is T o len = All-weaker (λ order. HaveOwnRanks (rank_in order) (length b.lives))
+    (λ order. payments_of pay b.last_time (rank_in order) T o ≤ 1)
+    (λ order own. one-payment-by pay (is.valid.lasting is.kind) (rank_in order) T o (rw len own) b.last_time)
+    (taken b) (orders-give-own-ranks b.ties (length b.lives))

@@ -34,10 +34,12 @@ all-true [] h = refl
 all-true (true ∷ bs) h = all-true bs h.1
 all-true (false ∷ bs) h = absurd (let q : false ≡ true = h.0 in cc)
 
-any-true : (s : Tree) (ms : Trees) → AllTrue (each_exists full_set full_set (more s ms)) → list_any (λ b. b) (each_exists full_set full_set (more s ms)) ≡ true
+any-true : (s : Tree) (ms : Trees) → AllTrue (each_exists full_set full_set (more s ms))
+    → list_any (λ b. b) (each_exists full_set full_set (more s ms)) ≡ true
 any-true s ms h = rw h.0 refl
 
-count-all : (ms : Trees) → AllTrue (each_exists full_set full_set ms) → count_true (each_exists full_set full_set ms) ≡ member_count ms
+count-all : (ms : Trees)
+    → AllTrue (each_exists full_set full_set ms) → count_true (each_exists full_set full_set ms) ≡ member_count ms
 count-all none h = refl
 count-all (more s ms) h = rw h.0 (omega (arith, count-all ms h.1))
 
@@ -52,13 +54,16 @@ mutual
   all-exist (joint ms) lasting lists ranks = all-true _ (each-exist ms lasting.1 lists.1 ranks.1)
   all-exist (last none) lasting lists ranks = absurd (let h = lists.0.0 in omega arith)
   all-exist (last (more s ms)) lasting lists ranks = any-true s ms (each-exist (more s ms) lasting.1 lists.1 ranks.1)
-  all-exist (at_least r ms) lasting lists ranks = reaches r _ (member_count ms) (count-all ms (each-exist ms lasting.1 lists.1 ranks.1)) ranks.0.1
+  all-exist (at_least r ms) lasting lists ranks =
+      reaches r _ (member_count ms) (count-all ms (each-exist ms lasting.1 lists.1 ranks.1)) ranks.0.1
   all-exist (exactly r ms) lasting lists ranks = absurd lasting.0
   all-exist (after s t) lasting lists ranks = absurd lasting.0
 
-  each-exist : (ms : Trees) → AtEachNodeIn NeverReturns ms → AtEachNodeIn HasShortList ms → AtEachNodeIn HasRank ms → AllTrue (each_exists full_set full_set ms)
+  each-exist : (ms : Trees) → AtEachNodeIn NeverReturns ms
+      → AtEachNodeIn HasShortList ms → AtEachNodeIn HasRank ms → AllTrue (each_exists full_set full_set ms)
   each-exist none lasting lists ranks = tt
-  each-exist (more s ms) lasting lists ranks = (all-exist s lasting.0 lists.0 ranks.0, each-exist ms lasting.1 lists.1 ranks.1)
+  each-exist (more s ms) lasting lists ranks =
+      (all-exist s lasting.0 lists.0 ranks.0, each-exist ms lasting.1 lists.1 ranks.1)
 
 mutual
   asks-for-some : (s : Tree) → AtEachNode HasRank s → HasPositiveRanks s
@@ -90,14 +95,17 @@ mutual
   term-length (last ms) lengths n e = any-length ms lengths.1 n e
   term-length (at_least r ms) lengths n e = any-length ms lengths.1 n e
   term-length (exactly r ms) lengths n e = any-length ms lengths.1 n e
-  term-length (after s t) lengths n e = either (names_term n s) (names_term n t) e (term-length s lengths.1 n) (term-length t lengths.2 n)
+  term-length (after s t) lengths n e =
+      either (names_term n s) (names_term n t) e (term-length s lengths.1 n) (term-length t lengths.2 n)
 
   any-length : (ms : Trees) → AtEachNodeIn HasLength ms → (n : ℕ) → any_names_term n ms ≡ true → 1 ≤ n
   any-length none lengths n e = absurd (cc)
-  any-length (more s ms) lengths n e = either (names_term n s) (any_names_term n ms) e (term-length s lengths.0 n) (any-length ms lengths.1 n)
+  any-length (more s ms) lengths n e =
+      either (names_term n s) (any_names_term n ms) e (term-length s lengths.0 n) (any-length ms lengths.1 n)
 
 -- whoever is alive at the start is there then
-there-at-start : (T : ℕ) (S : ℕ → Bool) (lives : List PlainLife) (o : Outcome) → Comes T S lives o → (i : ℕ) → i < length lives → S i ≡ true → there 0 (get_or o i None) ≡ true
+there-at-start : (T : ℕ) (S : ℕ → Bool) (lives : List PlainLife) (o : Outcome)
+    → Comes T S lives o → (i : ℕ) → i < length lives → S i ≡ true → there 0 (get_or o i None) ≡ true
 there-at-start T S [] [] comes i within alive = absurd (omega arith)
 there-at-start T S [] (way ∷ o) comes i within alive = absurd comes
 there-at-start T S (x ∷ lives) [] comes i within alive = absurd comes
@@ -109,7 +117,8 @@ there-at-start T S (x ∷ lives) (way ∷ o) comes zero within alive = first way
     first : (way : Option Exit) → IsWay T (S 0) x way → there 0 way ≡ true
     first None gone = absurd (let q : true ≡ false = sym alive ∙ gone in cc)
     first (Some e) is = from-zero e.year
-there-at-start T S (x ∷ lives) (way ∷ o) comes (suc i) within alive = there-at-start T (after_first S) lives o comes.1 i (omega arith) alive
+there-at-start T S (x ∷ lives) (way ∷ o) comes (suc i) within alive =
+    there-at-start T (after_first S) lives o comes.1 i (omega arith) alive
 
 gone-by : (time : ℕ) (way : Option Exit) → ExitBefore time way → there time way ≡ false
 gone-by time None h = refl
@@ -118,8 +127,10 @@ gone-by time (Some e) h = past time e.year h
     past : (t y : ℕ) → y < t → nat_le t y ≡ false
     past t y h = grind (arith, nat_tests)
 
-module _ (pay : PlainPay) (is : IsValidInsurance pay) (T : ℕ) (S : ℕ → Bool) (lives : List PlainLife) (o : Outcome) (comes : Comes T S lives o) where
-  pub exists-at-start : NamesLivesBelow (length lives) pay.body → ((i : ℕ) → S i ≡ true) → exists (lives_at 0 o) (is_on Due 0) pay.body ≡ true
+module _ (pay : PlainPay) (is : IsValidInsurance pay)
+    (T : ℕ) (S : ℕ → Bool) (lives : List PlainLife) (o : Outcome) (comes : Comes T S lives o) where
+  pub exists-at-start : NamesLivesBelow (length lives) pay.body
+      → ((i : ℕ) → S i ≡ true) → exists (lives_at 0 o) (is_on Due 0) pay.body ≡ true
   exists-at-start below alive = agree (lives_at 0 o) full_set (is_on Due 0) full_set pay.body
       (λ i e. there-at-start T S lives o comes i (below i e) (alive i))
       (λ n e. begun n (term-length pay.body is.valid.lengths n e))
@@ -128,7 +139,9 @@ module _ (pay : PlainPay) (is : IsValidInsurance pay) (T : ℕ) (S : ℕ → Boo
       begun : (n : ℕ) → 1 ≤ n → nat_lt 0 n ≡ true
       begun n h = grind (arith, nat_tests)
 
-  pub fallen-at-last : (last_time : ℕ) → EndBy last_time lives → ((n : ℕ) → IsTrue (names_term n pay.body) → n ≤ last_time) → exists (lives_at last_time o) (is_on Due last_time) pay.body ≡ false
+  pub fallen-at-last : (last_time : ℕ)
+      → EndBy last_time lives → ((n : ℕ) → IsTrue (names_term n pay.body) → n ≤ last_time)
+      → exists (lives_at last_time o) (is_on Due last_time) pay.body ≡ false
   fallen-at-last last_time end short = agree (lives_at last_time o) empty_set (is_on Due last_time) empty_set pay.body
       (λ i e. gone-by last_time (get_or o i None) (exit-before last_time T S lives end o comes i))
       (λ n e. ended n (short n e))

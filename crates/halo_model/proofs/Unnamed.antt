@@ -29,18 +29,21 @@ later-differs i b u v h (suc j) e = h j (less j i e)
     less j i e = grind (arith, nat_tests)
 
 -- a function that does not see life i has no coefficient on a set with it
-pub coefficient-blind : (f : List Bool → ℤ) (i : ℕ) → ((u v : List Bool) → DifferAt i u v → f u ≡ f v) → (s : List Bool) → in_set s i ≡ true → coefficient f s ≡ pos 0
+pub coefficient-blind : (f : List Bool → ℤ) (i : ℕ)
+    → ((u v : List Bool) → DifferAt i u v → f u ≡ f v) → (s : List Bool) → in_set s i ≡ true → coefficient f s ≡ pos 0
 coefficient-blind f i h [] e = absurd (cc)
 coefficient-blind f zero h (false ∷ s) e = absurd (cc)
 coefficient-blind f zero h (true ∷ s) e =
     coefficient-with f s
-    ∙ ap (λ g. coefficient g s -ℤ coefficient (λ u. f (false ∷ u)) s) (fun_ext (λ u. h (true ∷ u) (false ∷ u) (first-differs u)))
+    ∙ ap (λ g. coefficient g s -ℤ coefficient (λ u. f (false ∷ u)) s)
+    (fun_ext (λ u. h (true ∷ u) (false ∷ u) (first-differs u)))
     ∙ none (coefficient (λ u. f (false ∷ u)) s)
   where
     none : (z : ℤ) → z -ℤ z ≡ pos 0
     none z = omega (arith, ints)
 coefficient-blind f (suc i) h (false ∷ s) e =
-    coefficient-without f s ∙ coefficient-blind (λ u. f (false ∷ u)) i (λ u v d. h (false ∷ u) (false ∷ v) (later-differs i false u v d)) s e
+    coefficient-without f s ∙ coefficient-blind
+    (λ u. f (false ∷ u)) i (λ u v d. h (false ∷ u) (false ∷ v) (later-differs i false u v d)) s e
 coefficient-blind f (suc i) h (true ∷ s) e = omega (
   arith,
   ints,

@@ -13,20 +13,24 @@ use Rattle.halo_model.specs.PartsByTree.{others_of, waiting, waiting_member}
 use Rattle.halo_model.proofs.Agreement.{or-left, or-right}
 
 -- a member and the others together are the list
-pub standings-split : (i : ℕ) (ms : Trees) (place : ℕ) (s : Tree) → member_at ms place ≡ Some s → standings i s + standings_in i (others_of ms place) ≡ standings_in i ms
+pub standings-split : (i : ℕ) (ms : Trees) (place : ℕ) (s : Tree)
+    → member_at ms place ≡ Some s → standings i s + standings_in i (others_of ms place) ≡ standings_in i ms
 standings-split i none place s e = absurd (cc)
 standings-split i (more m ms) zero s e = let q : m ≡ s = grind arith in rw q refl
 standings-split i (more m ms) (suc place) s e = omega (arith, standings-split i ms place s e)
 
-named-member_at : (i : ℕ) (ms : Trees) (place : ℕ) (s : Tree) → member_at ms place ≡ Some s → names_life i s ≡ true → any_names_life i ms ≡ true
+named-member_at : (i : ℕ) (ms : Trees) (place : ℕ) (s : Tree)
+    → member_at ms place ≡ Some s → names_life i s ≡ true → any_names_life i ms ≡ true
 named-member_at i none place s e h = absurd (cc)
 named-member_at i (more m ms) zero s e h = let q : m ≡ s = grind arith in rw q (or-left _ _ h)
 named-member_at i (more m ms) (suc place) s e h = or-right (names_life i m) _ (named-member_at i ms place s e h)
 
-named-others : (i : ℕ) (ms : Trees) (place : ℕ) → any_names_life i (others_of ms place) ≡ true → any_names_life i ms ≡ true
+named-others : (i : ℕ) (ms : Trees) (place : ℕ)
+    → any_names_life i (others_of ms place) ≡ true → any_names_life i ms ≡ true
 named-others i none place h = h
 named-others i (more m ms) zero h = or-right (names_life i m) _ h
-named-others i (more m ms) (suc place) h = either (names_life i m) (any_names_life i (others_of ms place)) (any_names_life i ms) (named-others i ms place) h
+named-others i (more m ms) (suc place) h =
+    either (names_life i m) (any_names_life i (others_of ms place)) (any_names_life i ms) (named-others i ms place) h
   where
     either : (b c d : Bool) → (c ≡ true → d ≡ true) → (b || c) ≡ true → (b || d) ≡ true
     either true c d f e = refl
@@ -59,35 +63,46 @@ pub waiting-once : (mark : Option Mark) (body : Tree) → IsReadOnce body → Is
 waiting-once None body once = once
 waiting-once (Some mark) body once = go (member_at (members_of body) mark.member) refl
   where
-    go : (found : Option Tree) → member_at (members_of body) mark.member ≡ found → IsReadOnce (waiting_member mark (members_of body) found)
+    go : (found : Option Tree)
+        → member_at (members_of body) mark.member ≡ found → IsReadOnce (waiting_member mark (members_of body) found)
     go None e i = omega arith
-    go (Some s) e i = omega (arith, standings-split i (members_of body) mark.member s e, members-standings i body, once i)
+    go (Some s) e i =
+        omega (arith, standings-split i (members_of body) mark.member s e, members-standings i body, once i)
 
-pub waiting-named : (bound : ℕ) (mark : Option Mark) (body : Tree) → NamesLivesBelow bound body → NamesLivesBelow bound (waiting mark body)
+pub waiting-named : (bound : ℕ) (mark : Option Mark) (body : Tree)
+    → NamesLivesBelow bound body → NamesLivesBelow bound (waiting mark body)
 waiting-named bound None body named = named
 waiting-named bound (Some mark) body named = go (member_at (members_of body) mark.member) refl
   where
-    go : (found : Option Tree) → member_at (members_of body) mark.member ≡ found → NamesLivesBelow bound (waiting_member mark (members_of body) found)
+    go : (found : Option Tree) → member_at (members_of body) mark.member ≡ found
+        → NamesLivesBelow bound (waiting_member mark (members_of body) found)
     go None e i h = absurd (cc)
-    go (Some s) e i h = named i (members-named i body (of-either (names_life i s) (any_names_life i (others_of (members_of body) mark.member)) (any_names_life i (members_of body)) (named-member_at i (members_of body) mark.member s e) (named-others i (members_of body) mark.member) h))
+    go (Some s) e i h = named i (members-named i body (of-either (names_life i s)
+        (any_names_life i (others_of (members_of body) mark.member)) (any_names_life i (members_of body))
+        (named-member_at i (members_of body) mark.member s e) (named-others i (members_of body) mark.member) h))
 
 -- whether the member at a place exists, how many do, and how many there are
-member-exists : (alive on : ℕ → Bool) (ms : Trees) (place : ℕ) (s : Tree) → member_at ms place ≡ Some s → get_or (each_exists alive on ms) place false ≡ exists alive on s
+member-exists : (alive on : ℕ → Bool) (ms : Trees) (place : ℕ) (s : Tree)
+    → member_at ms place ≡ Some s → get_or (each_exists alive on ms) place false ≡ exists alive on s
 member-exists alive on none place s e = absurd (cc)
 member-exists alive on (more m ms) zero s e = let q : m ≡ s = grind arith in rw q refl
 member-exists alive on (more m ms) (suc place) s e = member-exists alive on ms place s e
 
-no-member-exists : (alive on : ℕ → Bool) (ms : Trees) (place : ℕ) → member_at ms place ≡ None → get_or (each_exists alive on ms) place false ≡ false
+no-member-exists : (alive on : ℕ → Bool) (ms : Trees) (place : ℕ)
+    → member_at ms place ≡ None → get_or (each_exists alive on ms) place false ≡ false
 no-member-exists alive on none place e = refl
 no-member-exists alive on (more m ms) zero e = absurd (cc)
 no-member-exists alive on (more m ms) (suc place) e = no-member-exists alive on ms place e
 
-count-split : (alive on : ℕ → Bool) (ms : Trees) (place : ℕ) (s : Tree) → member_at ms place ≡ Some s → count_true (each_exists alive on ms) ≡ count_true (exists alive on s ∷ each_exists alive on (others_of ms place))
+count-split : (alive on : ℕ → Bool) (ms : Trees) (place : ℕ) (s : Tree) → member_at ms place ≡ Some s
+    → count_true (each_exists alive on ms) ≡ count_true (exists alive on s ∷ each_exists alive on (others_of ms place))
 count-split alive on none place s e = absurd (cc)
 count-split alive on (more m ms) zero s e = let q : m ≡ s = grind arith in rw q refl
-count-split alive on (more m ms) (suc place) s e = swapped (exists alive on m) (exists alive on s) (each_exists alive on ms) (each_exists alive on (others_of ms place)) (count-split alive on ms place s e)
+count-split alive on (more m ms) (suc place) s e = swapped (exists alive on m) (exists alive on s)
+    (each_exists alive on ms) (each_exists alive on (others_of ms place)) (count-split alive on ms place s e)
   where
-    swapped : (b c : Bool) (bs cs : List Bool) → count_true bs ≡ count_true (c ∷ cs) → count_true (b ∷ bs) ≡ count_true (c ∷ b ∷ cs)
+    swapped : (b c : Bool) (bs cs : List Bool)
+        → count_true bs ≡ count_true (c ∷ cs) → count_true (b ∷ bs) ≡ count_true (c ∷ b ∷ cs)
     swapped true true bs cs h = ap suc h
     swapped true false bs cs h = ap suc h
     swapped false true bs cs h = h
@@ -98,19 +113,25 @@ length-each alive on none = refl
 length-each alive on (more m ms) = omega (arith, length-each alive on ms)
 
 -- the status of a pay exists by its mark where the status exists on which it waits
-pub waiting-exists : (alive on : ℕ → Bool) (mark : Option Mark) (body : Tree) → exists_by_mark mark body alive on ≡ exists alive on (waiting mark body)
+pub waiting-exists : (alive on : ℕ → Bool) (mark : Option Mark) (body : Tree)
+    → exists_by_mark mark body alive on ≡ exists alive on (waiting mark body)
 waiting-exists alive on None body = refl
 waiting-exists alive on (Some mark) body = go (member_at (members_of body) mark.member) refl
   where
     ms : Trees
     ms = members_of body
 
-    go : (found : Option Tree) → member_at (members_of body) mark.member ≡ found → waits_at_rank mark (each_exists alive on (members_of body)) ≡ exists alive on (waiting_member mark (members_of body) found)
+    go : (found : Option Tree) → member_at (members_of body) mark.member ≡ found → waits_at_rank mark
+        (each_exists alive on (members_of body)) ≡ exists alive on (waiting_member mark (members_of body) found)
     go None e = rw (no-member-exists alive on (members_of body) mark.member e) refl
-    go (Some s) e = rw (member-exists alive on ms mark.member s e, count-split alive on ms mark.member s e, length-each alive on ms) (waits (exists alive on s) (each_exists alive on (others_of ms mark.member)))
+    go (Some s) e =
+        rw (member-exists alive on ms mark.member s e, count-split alive on ms mark.member s e, length-each alive on ms)
+        (waits (exists alive on s) (each_exists alive on (others_of ms mark.member)))
       where
-        waits : (b : Bool) (bs : List Bool) → (b && nat_eq (count_true (b ∷ bs) - 1) (member_count ms - mark.rank)) ≡ (b && (nat_eq (count_true bs) (member_count ms - mark.rank) && true))
-        waits true bs = ap (λ n. nat_eq n (member_count ms - mark.rank)) (one-less (count_true bs)) ∙ sym (and-true (nat_eq (count_true bs) (member_count ms - mark.rank)))
+        waits : (b : Bool) (bs : List Bool) → (b && nat_eq (count_true (b ∷ bs) - 1) (member_count ms - mark.rank))
+            ≡ (b && (nat_eq (count_true bs) (member_count ms - mark.rank) && true))
+        waits true bs = ap (λ n. nat_eq n (member_count ms - mark.rank)) (one-less (count_true bs))
+            ∙ sym (and-true (nat_eq (count_true bs) (member_count ms - mark.rank)))
           where
             one-less : (n : ℕ) → suc n - 1 ≡ n
             one-less n = omega arith

@@ -6,4 +6,11 @@ use Rattle.halo_model.specs.WorkedOrders.{OrderRows}
 
 pub order_rows : OrderRows
 unfolding first_leaving_evenly product_evenly
-order_rows = record { second_of_two = refl; first_of_two = refl; first_of_three = refl; some_of_two = refl; one_before = refl; mean_of_three = refl }
+order_rows = record {
+  second_of_two = refl;
+  first_of_two = refl;
+  first_of_three = refl;
+  some_of_two = refl;
+  one_before = refl;
+  mean_of_three = refl;
+}

@@ -26,26 +26,39 @@ module _ (pay : PlainPay) (rank : ℕ → ℕ) (T : ℕ) (o : Outcome) (last_tim
   abbrev count : ℕ → List Event → ℕ
   count k es = sum_over es (λ e. cond (falls_in_year pay rank T o k e) 1 0)
 
-  events-by-year : (es : List Event) → Each (λ e. year_of e < last_time) es → pos (sum_over es worth) ≡ int_sum_over (numbers_from 0 last_time) (λ k. pos (paid k * count k es))
-  events-by-year [] h = sym (int_sum_over-ext (numbers_from 0 last_time) _ _ (λ k. nothing (paid k)) ∙ int_sum_over-none (numbers_from 0 last_time))
+  events-by-year : (es : List Event) → Each (λ e. year_of e < last_time) es
+      → pos (sum_over es worth) ≡ int_sum_over (numbers_from 0 last_time) (λ k. pos (paid k * count k es))
+  events-by-year [] h = sym (int_sum_over-ext (numbers_from 0 last_time) _ _ (λ k. nothing (paid k))
+      ∙ int_sum_over-none (numbers_from 0 last_time))
     where
       nothing : (n : ℕ) → pos (n * 0) ≡ pos 0
       nothing n = omega (arith, ints)
   events-by-year (e ∷ es) h = pos_add (worth e) (sum_over es worth)
       ∙ ap (λ z. z +ℤ pos (sum_over es worth)) (by-year paid last_time (year_of e) (falls_on pay rank T o e) h.0)
-      ∙ ap (λ z. int_sum_over (numbers_from 0 last_time) (λ k. pos (cond (falls_in_year pay rank T o k e) (paid k) 0)) +ℤ z) (events-by-year es h.1)
-      ∙ sym (int_sum_over-add (numbers_from 0 last_time) (λ k. pos (cond (falls_in_year pay rank T o k e) (paid k) 0)) (λ k. pos (paid k * count k es)))
-      ∙ int_sum_over-ext (numbers_from 0 last_time) _ _ (λ k. add-one (falls_in_year pay rank T o k e) (paid k) (count k es))
+      ∙ ap (λ z. int_sum_over (numbers_from 0 last_time) (λ k. pos (cond (falls_in_year pay rank T o k e) (paid k) 0))
+      +ℤ z) (events-by-year es h.1)
+      ∙ sym (int_sum_over-add (numbers_from 0 last_time)
+      (λ k. pos (cond (falls_in_year pay rank T o k e) (paid k) 0)) (λ k. pos (paid k * count k es)))
+      ∙ int_sum_over-ext
+      (numbers_from 0 last_time) _ _ (λ k. add-one (falls_in_year pay rank T o k e) (paid k) (count k es))
 
   -- what all events pay is a sum over the years
   pub value-by-year : ((a : ℕ) → ExitBefore last_time (get_or o a None))
-      → sum_over (leavings 0 o) worth + sum_over (term_ends last_time pay.body) worth ≡ sum_over (numbers_from 0 last_time) (λ k. paid k * payments_in_year pay last_time rank T o k)
+      → sum_over (leavings 0 o) worth + sum_over (term_ends last_time pay.body) worth
+      ≡ sum_over (numbers_from 0 last_time) (λ k. paid k * payments_in_year pay last_time rank T o k)
   value-by-year before = pos_injective _ _ (
       pos_add (sum_over (leavings 0 o) worth) (sum_over (term_ends last_time pay.body) worth)
-      ∙ ap (λ z. z +ℤ pos (sum_over (term_ends last_time pay.body) worth)) (events-by-year (leavings 0 o) (each-weaker (LeavesFrom o 0) (λ e. year_of e < last_time) leaving (leavings 0 o) (each-leaving o 0 o (omega arith) from-start)))
-      ∙ ap (λ z. int_sum_over (numbers_from 0 last_time) (λ k. pos (paid k * count k (leavings 0 o))) +ℤ z) (events-by-year (term_ends last_time pay.body) (each-weaker (EndsFrom 1 (1 + last_time)) (λ e. year_of e < last_time) ending (term_ends last_time pay.body) (each-end (λ n. names_term n pay.body) last_time 1 (1 + last_time) (omega arith))))
-      ∙ sym (int_sum_over-add (numbers_from 0 last_time) (λ k. pos (paid k * count k (leavings 0 o))) (λ k. pos (paid k * count k (term_ends last_time pay.body))))
-      ∙ int_sum_over-ext (numbers_from 0 last_time) _ _ (λ k. together (paid k) (count k (leavings 0 o)) (count k (term_ends last_time pay.body)))
+      ∙ ap (λ z. z +ℤ pos (sum_over (term_ends last_time pay.body) worth))
+      (events-by-year (leavings 0 o) (each-weaker (LeavesFrom o 0)
+      (λ e. year_of e < last_time) leaving (leavings 0 o) (each-leaving o 0 o (omega arith) from-start)))
+      ∙ ap (λ z. int_sum_over (numbers_from 0 last_time) (λ k. pos (paid k * count k (leavings 0 o))) +ℤ z)
+      (events-by-year (term_ends last_time pay.body)
+      (each-weaker (EndsFrom 1 (1 + last_time)) (λ e. year_of e < last_time) ending (term_ends last_time pay.body)
+      (each-end (λ n. names_term n pay.body) last_time 1 (1 + last_time) (omega arith))))
+      ∙ sym (int_sum_over-add (numbers_from 0 last_time)
+      (λ k. pos (paid k * count k (leavings 0 o))) (λ k. pos (paid k * count k (term_ends last_time pay.body))))
+      ∙ int_sum_over-ext (numbers_from 0 last_time) _ _
+      (λ k. together (paid k) (count k (leavings 0 o)) (count k (term_ends last_time pay.body)))
       ∙ int_sum_over-pos (numbers_from 0 last_time) (λ k. paid k * payments_in_year pay last_time rank T o k)
       )
     where

@@ -1,9 +1,11 @@
--- The chance that a status of independent lives exists, along its tree: life i is there with the chance n i / d i. It is told
--- without division, as a weight in a whole, and it is the chance only of a status in which no life stands twice.
+-- The chance that a status of independent lives exists, along its tree: life i is there with the
+-- chance n i / d i. It is told without division, as a weight in a whole, and it is the chance only
+-- of a status in which no life stands twice.
 use Rattle.std.specs.Prelude.{ℕ, suc, ◌+◌, ◌-◌, ◌*◌, Bool, cond, nat_eq, nat_le}
 use Rattle.halo_status.specs.Tree.{Tree, Trees, life, term, joint, last, at_least, exactly, after, none, more}
 
--- in which parts the chance of a status is told: the product over its lives, each as often as it stands there
+-- in which parts the chance of a status is told: the product over its lives, each as often as it
+-- stands there
 abbrev mutual
   pub whole_of : (ℕ → ℕ) → Tree → ℕ
   whole_of d (life i) = d i
@@ -40,8 +42,8 @@ abbrev mutual
   weight_of_none n d on none = 1
   weight_of_none n d on (more s ms) = (whole_of d s - weight_of n d on s) * weight_of_none n d on ms
 
-  -- with which the number of those that exist passes a test: with the first, the others have to be one fewer, and else they
-  -- have to pass it themselves
+  -- with which the number of those that exist passes a test: with the first, the others have to be
+  -- one fewer, and else they have to pass it themselves
   pub weight_of_count : (ℕ → ℕ) → (ℕ → ℕ) → (ℕ → Bool) → (ℕ → Bool) → Trees → ℕ
   weight_of_count n d on passes none = cond (passes 0) 1 0
   weight_of_count n d on passes (more s ms) =

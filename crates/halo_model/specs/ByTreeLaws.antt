@@ -17,14 +17,20 @@ use Rattle.halo_model.specs.Independent.{existence_weight, started_of, survivors
 abbrev pub AreChances : (ℕ → ℕ) → (ℕ → ℕ) → Type 0
 AreChances n d = (i : ℕ) → n i ≤ d i
 
--- of independent lives: the sum over all sets of them is the weight along the tree, where no life stands in it twice
+-- of independent lives: the sum over all sets of them is the weight along the tree, where no life
+-- stands in it twice
 abbrev pub ExistenceByTree : Type 0
-ExistenceByTree = (count : ℕ) (n d : ℕ → ℕ) → AreChances n d → (on : ℕ → Bool) (s : Tree) → IsReadOnce s → NamesLivesBelow count s
-    → pos (whole_of d s) *ℤ existence_weight count n d on s ≡ pos (weight_of n d on s) *ℤ pos (product_over (numbers_from 0 count) d)
+ExistenceByTree = (count : ℕ) (n d : ℕ → ℕ)
+    → AreChances n d → (on : ℕ → Bool) (s : Tree) → IsReadOnce s → NamesLivesBelow count s
+    → pos (whole_of d s) *ℤ existence_weight count n d on s
+    ≡ pos (weight_of n d on s) *ℤ pos (product_over (numbers_from 0 count) d)
 
 -- over the outcomes of lives, each looked at at a time of its own
 abbrev pub ExpectedByTree : Type 0
-ExpectedByTree = (times : ℕ → ℕ) (T : ℕ) → ((i : ℕ) → T ≤ times i) → (S : ℕ → Bool) (lives : List PlainLife) → AreLives lives
+ExpectedByTree = (times : ℕ → ℕ) (T : ℕ)
+    → ((i : ℕ) → T ≤ times i) → (S : ℕ → Bool) (lives : List PlainLife) → AreLives lives
     → (on : ℕ → Bool) (s : Tree) → IsReadOnce s → NamesLivesBelow (length lives) s
-    → pos (whole_of (started_of T S lives) s) *ℤ expected T S lives (λ o. indicator (exists (in_set (there_at times o)) on s))
-    ≡ pos (weight_of (survivors_of times S lives) (started_of T S lives) on s) *ℤ pos (joint_survivors T S lives)
+    → pos (whole_of (started_of T S lives) s)
+    *ℤ expected T S lives (λ o. indicator (exists (in_set (there_at times o)) on s))
+    ≡ pos (weight_of (survivors_of times S lives) (started_of T S lives) on s)
+    *ℤ pos (joint_survivors T S lives)

@@ -1,4 +1,5 @@
--- Commutation columns: by age, the discounted survivors and leavers of a table, and their sums up to its last age.
+-- Commutation columns: by age, the discounted survivors and leavers of a table, and their sums up
+-- to its last age.
 use Rattle.std.specs.Prelude.{◌≡◌, ℕ, ◌+◌, ◌-◌, ◌*◌, ◌≤◌, [], ◌∷◌, length}
 use Rattle.halo_sums.specs.Sums.{numbers_from, sum_over}
 use Rattle.halo_status.specs.Tree.{life}
@@ -12,7 +13,8 @@ use Rattle.halo_model.specs.Premium.{all_lives}
 use Rattle.halo_model.specs.SmallBasis.{plain}
 use Rattle.halo_model.specs.Value.{denominator, numerator}
 
--- what columns are made of: the interest p k / q k of year k, counted from birth, and the table at a place of a file
+-- what columns are made of: the interest p k / q k of year k, counted from birth, and the table at
+-- a place of a file
 pub record ColumnBasis : Type 0 where
   pub p : ℕ → ℕ
   pub q : ℕ → ℕ
@@ -76,7 +78,8 @@ column_c_by c j x = discount_power c (x + 1) * leavers_by_cause c j x
 abbrev pub column_m_by : ColumnBasis → ℕ → ℕ → ℕ
 column_m_by c j = sum_from c (column_c_by c j)
 
--- how wide the columns may be, in fine units: the power of t years is at most 3t wide, and sums as wide as their terms together
+-- how wide the columns may be, in fine units: the power of t years is at most 3t wide, and sums as
+-- wide as their terms together
 abbrev pub width_d : ColumnBasis → ℕ → ℕ
 width_d c x = 3 * x * survivors c x
 
@@ -101,16 +104,25 @@ width_r c = sum_from c (width_m c)
 abbrev pub width_m_by : ColumnBasis → ℕ → ℕ → ℕ
 width_m_by c j = sum_from c (width_c_by c j)
 
--- For one life aged x, and one fraction of interest: the annuity-due on it is worth N_x / D_x, and the insurance M_x / D_x.
--- Its table ends by the last time.
+-- For one life aged x, and one fraction of interest: the annuity-due on it is worth N_x / D_x, and
+-- the insurance M_x / D_x. Its table ends by the last time.
 pub record ColumnsAgree (b : Basis) (c : ColumnBasis) (x : ℕ) : Type 0 where
-  pub due : numerator b (plain Due (life 0)) 0 all_lives * column_d c x ≡ column_n c x * denominator b 0 all_lives
-  pub insurance : numerator b (plain Insurance (life 0)) 0 all_lives * column_d c x ≡ column_m c x * denominator b 0 all_lives
+  pub due : numerator b (plain Due (life 0)) 0 all_lives * column_d c x
+      ≡ column_n c x * denominator b 0 all_lives
+  pub insurance : numerator b (plain Insurance (life 0)) 0 all_lives * column_d c x
+      ≡ column_m c x * denominator b 0 all_lives
 
 abbrev pub ColumnsAgreeOnOneLife : Type 0
-ColumnsAgreeOnOneLife = (p q : ℕ) (file : TableFile) (table age last_time : ℕ) (ties : Ties) → IsSound file → HasRow file table age
+ColumnsAgreeOnOneLife = (p q : ℕ) (file : TableFile) (table age last_time : ℕ) (ties : Ties)
+    → IsSound file → HasRow file table age
     → (life_of file table age).years_left ≤ last_time
     → ColumnsAgree
-    (record { p = λ k. p; q = λ k. q; last_time = last_time; lives = life_of file table age ∷ []; ties = ties })
+    (record {
+      p = λ k. p;
+      q = λ k. q;
+      last_time = last_time;
+      lives = life_of file table age ∷ [];
+      ties = ties;
+    })
     (record { p = λ k. p; q = λ k. q; file = file; table = table })
     age

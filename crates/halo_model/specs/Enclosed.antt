@@ -1,4 +1,5 @@
--- Intervals that enclose the values of a contract, each no wider than its count: of a pay of amount 1, of some pays together, of a premium, and of a reserve.
+-- Intervals that enclose the values of a contract, each no wider than its count: of a pay of amount
+-- 1, of some pays together, of a premium, and of a reserve.
 use Rattle.std.specs.Prelude.{◌≡◌, ℕ, ◌*◌, Bool, List, Option, Some, None, pos}
 use Rattle.halo_num.specs.Ends.{Ends, HasWidth, IsWithin, fine}
 use Rattle.halo_num.specs.Enclosure.{Encloses}
@@ -16,7 +17,8 @@ of_one pay = record pay { amount = 1 }
 
 -- a pay is worth its amount times what it is worth with amount 1
 abbrev pub ValuesScale : Type 0
-ValuesScale = (b : Basis) (pay : PlainPay) (T : ℕ) (S : ℕ → Bool) → numerator b pay T S ≡ pay.amount * numerator b (of_one pay) T S
+ValuesScale = (b : Basis) (pay : PlainPay) (T : ℕ) (S : ℕ → Bool)
+    → numerator b pay T S ≡ pay.amount * numerator b (of_one pay) T S
 
 -- i encloses what a pay of amount 1 is worth at T with the lives of S alive
 pub record EnclosesOne (b : Basis) (pay : PlainPay) (T : ℕ) (S : ℕ → Bool) (i : Ends) : Type 0 where
@@ -25,13 +27,15 @@ pub record EnclosesOne (b : Basis) (pay : PlainPay) (T : ℕ) (S : ℕ → Bool)
   pub within : IsWithin i (pos 0) (pos (most_worth pay.kind (measures_of b pay) * fine))
 
 -- i encloses what some pays together, each with its amount, are worth
-pub record EnclosesBenefits (b : Basis) (pays : List PlainPay) (T : ℕ) (S : ℕ → Bool) (i : Ends) : Type 0 where
+pub record EnclosesBenefits
+    (b : Basis) (pays : List PlainPay) (T : ℕ) (S : ℕ → Bool) (i : Ends) : Type 0 where
   pub encloses : Encloses i (pos (total_numerator b pays T S)) (denominator b T S)
   pub narrow : HasWidth i (benefit_width b pays)
   pub within : IsWithin i (pos 0) (pos (benefit_most b pays * fine))
 
 -- i encloses the premium of some pays while a status exists
-pub record EnclosesPremium (b : Basis) (pays : List PlainPay) (status : Tree) (i : Ends) : Type 0 where
+pub record EnclosesPremium
+    (b : Basis) (pays : List PlainPay) (status : Tree) (i : Ends) : Type 0 where
   pub encloses : Encloses i (pos (premium_numerator b pays)) (premium_denominator b status)
   pub narrow : HasWidth i (premium_width b pays status)
   pub within : IsWithin i (pos 0) (pos (benefit_most b pays * fine))
@@ -41,7 +45,10 @@ abbrev pub reserve_width_of : Basis → List PlainPay → Option Tree → ℕ
 reserve_width_of b pays None = benefit_width b pays
 reserve_width_of b pays (Some status) = reserve_width b pays status
 
--- i encloses the reserve of some pays, less premiums if there are any, at T with the lives of S alive
-pub record EnclosesReserve (b : Basis) (pays : List PlainPay) (premium : Option Tree) (T : ℕ) (S : ℕ → Bool) (i : Ends) : Type 0 where
-  pub encloses : Encloses i (reserve_numerator b pays premium T S) (reserve_denominator b premium T S)
+-- i encloses the reserve of some pays, less premiums if there are any, at T with the lives of S
+-- alive
+pub record EnclosesReserve (b : Basis)
+    (pays : List PlainPay) (premium : Option Tree) (T : ℕ) (S : ℕ → Bool) (i : Ends) : Type 0 where
+  pub encloses : Encloses i
+      (reserve_numerator b pays premium T S) (reserve_denominator b premium T S)
   pub narrow : HasWidth i (reserve_width_of b pays premium)

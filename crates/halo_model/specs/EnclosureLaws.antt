@@ -1,4 +1,5 @@
--- From the intervals of the pays, each with amount 1, to those of the total, the premium and the reserves.
+-- From the intervals of the pays, each with amount 1, to those of the total, the premium and the
+-- reserves.
 use Rattle.std.specs.Prelude.{◌≡◌, ℕ, ◌+◌, ◌*◌, ◌++◌, ◌^◌, ◌≤◌, All, Bool, List, [], ◌∷◌, Some, None, ℤ, pos, ◌+ℤ◌, ◌-ℤ◌, ◌*ℤ◌, ◌≤ℤ◌}
 use Rattle.halo_num.specs.Ends.{Ends, HasWidth, fine}
 use Rattle.halo_num.specs.Enclosure.{Encloses}
@@ -16,40 +17,49 @@ use Rattle.halo_model.specs.Widths.{benefit_most}
 
 -- no pays are worth nothing
 abbrev pub NoBenefits : Type 0
-NoBenefits = (b : Basis) (T : ℕ) (S : ℕ → Bool) (i : Ends) → i.lo ≡ pos 0 → i.hi ≡ pos 0 → EnclosesBenefits b [] T S i
+NoBenefits = (b : Basis) (T : ℕ) (S : ℕ → Bool) (i : Ends)
+    → i.lo ≡ pos 0 → i.hi ≡ pos 0 → EnclosesBenefits b [] T S i
 
 -- one pay more adds its amount times what it is worth with amount 1
 abbrev pub OneBenefitMore : Type 0
-OneBenefitMore = (b : Basis) (pays : List PlainPay) (pay : PlainPay) (T : ℕ) (S : ℕ → Bool) (sum value more : Ends)
+OneBenefitMore = (b : Basis)
+    (pays : List PlainPay) (pay : PlainPay) (T : ℕ) (S : ℕ → Bool) (sum value more : Ends)
     → EnclosesBenefits b pays T S sum → EnclosesOne b pay T S value
-    → more.lo ≡ sum.lo +ℤ value.lo *ℤ pos pay.amount → more.hi ≡ sum.hi +ℤ value.hi *ℤ pos pay.amount
+    → more.lo ≡ sum.lo +ℤ value.lo *ℤ pos pay.amount
+    → more.hi ≡ sum.hi +ℤ value.hi *ℤ pos pay.amount
     → EnclosesBenefits b (pays ++ pay ∷ []) T S more
 
--- i is a quotient of intervals, rounded outward: it encloses each quotient of a fraction in one by a fraction in the other
+-- i is a quotient of intervals, rounded outward: it encloses each quotient of a fraction in one by
+-- a fraction in the other
 pub record IsQuotient (benefits due i : Ends) : Type 0 where
   pub encloses : (n : ℤ) (m d : ℕ) → Encloses benefits n d → Encloses due (pos m) d → Encloses i n m
-  pub narrow : (v w t : ℕ) → benefits.hi ≤ℤ pos (t * fine) → HasWidth benefits v → HasWidth due w → HasWidth i (v + t * w + 1)
+  pub narrow : (v w t : ℕ) → benefits.hi ≤ℤ pos (t * fine)
+      → HasWidth benefits v → HasWidth due w → HasWidth i (v + t * w + 1)
   pub from : pos 0 ≤ℤ i.lo
   pub bound : (t : ℕ) → benefits.hi ≤ℤ pos (t * fine) → i.hi ≤ℤ pos (t * fine)
 
 -- the premium: the benefits at the start over the value of a premium of 1
 abbrev pub PremiumOfBenefits : Type 0
 PremiumOfBenefits = (b : Basis) (pays : List PlainPay) (status : Tree) (benefits due i : Ends)
-    → EnclosesBenefits b pays 0 all_lives benefits → EnclosesOne b (premium_pay status) 0 all_lives due
+    → EnclosesBenefits b pays 0 all_lives benefits
+    → EnclosesOne b (premium_pay status) 0 all_lives due
     → IsQuotient benefits due i → EnclosesPremium b pays status i
 
 -- i is an interval less a product of two, rounded outward
 pub record IsLessProduct (later premium due i : Ends) : Type 0 where
-  pub encloses : (n m k : ℤ) (d e : ℕ) → Encloses later n d → Encloses premium m e → Encloses due k d → Encloses i (n *ℤ pos e -ℤ m *ℤ k) (d * e)
+  pub encloses : (n m k : ℤ) (d e : ℕ) → Encloses later n d
+      → Encloses premium m e → Encloses due k d → Encloses i (n *ℤ pos e -ℤ m *ℤ k) (d * e)
   pub narrow : (v w u t g : ℕ) → premium.hi ≤ℤ pos (t * fine) → due.hi ≤ℤ pos (g * fine)
       → HasWidth later v → HasWidth premium w → HasWidth due u → HasWidth i (v + t * u + g * w + 1)
 
--- the reserve with a premium: the pays still to come, less the premium times the value of a premium of 1 still to come, whose
--- status cannot outlast the last time
+-- the reserve with a premium: the pays still to come, less the premium times the value of a premium
+-- of 1 still to come, whose status cannot outlast the last time
 abbrev pub ReserveWithPremium : Type 0
-ReserveWithPremium = (b : Basis) (pays : List PlainPay) (status : Tree) (T : ℕ) (S : ℕ → Bool) (later premium due i : Ends)
+ReserveWithPremium = (b : Basis)
+    (pays : List PlainPay) (status : Tree) (T : ℕ) (S : ℕ → Bool) (later premium due i : Ends)
     → horizon b.lives status ≤ b.last_time
-    → EnclosesBenefits b pays T S later → EnclosesPremium b pays status premium → EnclosesOne b (premium_pay status) T S due
+    → EnclosesBenefits b pays T S later
+    → EnclosesPremium b pays status premium → EnclosesOne b (premium_pay status) T S due
     → IsLessProduct later premium due i → EnclosesReserve b pays (Some status) T S i
 
 -- and without one
@@ -57,16 +67,20 @@ abbrev pub ReserveWithoutPremium : Type 0
 ReserveWithoutPremium = (b : Basis) (pays : List PlainPay) (T : ℕ) (S : ℕ → Bool) (later : Ends)
     → EnclosesBenefits b pays T S later → EnclosesReserve b pays None T S later
 
--- a pay within the limits of contracts: it has changed all it can by time 200, and its decreasing factor begins at most at 200
+-- a pay within the limits of contracts: it has changed all it can by time 200, and its decreasing
+-- factor begins at most at 200
 pub record IsShortPay (b : Basis) (pay : PlainPay) : Type 0 where
   pub years : horizon b.lives pay.body ≤ 200
   pub vary : HasValidVary pay.vary
 
--- all pays together have room in the sums of intervals, where their amounts come to at most 10^10 ..
+-- all pays together have room in the sums of intervals, where their amounts come to at most 10^10
+-- ..
 abbrev pub BenefitsFit : Type 0
-BenefitsFit = (b : Basis) (pays : List PlainPay) → All (IsShortPay b) pays → sum_over pays (λ pay. pay.amount) ≤ 10 ^ 10
+BenefitsFit = (b : Basis) (pays : List PlainPay)
+    → All (IsShortPay b) pays → sum_over pays (λ pay. pay.amount) ≤ 10 ^ 10
     → benefit_most b pays * fine ≤ 10 ^ 33
 
 -- .. and so has the value of a premium of 1 in the products and quotients
 abbrev pub DueFits : Type 0
-DueFits = (b : Basis) (status : Tree) → horizon b.lives status ≤ 200 → most_worth Due (measures_of b (premium_pay status)) * fine ≤ 10 ^ 21
+DueFits = (b : Basis) (status : Tree) → horizon b.lives status ≤ 200
+    → most_worth Due (measures_of b (premium_pay status)) * fine ≤ 10 ^ 21

@@ -2,8 +2,9 @@
 use Rattle.std.specs.Prelude.{◌≡◌, ⊤, ℕ, suc, ◌+◌, ◌<◌, ◌≤◌, Bool, cond, List, [], ◌∷◌}
 use Rattle.halo_sums.specs.Sums.{numbers_from, sum_over}
 
--- for how many years its table goes on, how many causes of decrement there are, the survivors (l) at each time, and the
--- leavers (d) in each year by each cause; times and years count from the start of the contract
+-- for how many years its table goes on, how many causes of decrement there are, the survivors (l)
+-- at each time, and the leavers (d) in each year by each cause; times and years count from the
+-- start of the contract
 pub record PlainLife : Type 0 where
   pub years_left : ℕ
   pub causes : ℕ
@@ -18,8 +19,9 @@ leavers_in x k = sum_over (numbers_from 0 x.causes) (x.leavers k)
 abbrev pub leavers_by : (ℕ → Bool) → PlainLife → ℕ → ℕ
 leavers_by causes x k = sum_over (numbers_from 0 x.causes) (λ j. cond (causes j) (x.leavers k j) 0)
 
--- the rule of a decrement table, l_(x+k) = d_(x+k) + l_(x+k+1): who is alive at a time leaves in that year or is alive
--- at the next; and nobody is alive after the last year, so that nobody leaves after it
+-- the rule of a decrement table, l_(x+k) = d_(x+k) + l_(x+k+1): who is alive at a time leaves in
+-- that year or is alive at the next; and nobody is alive after the last year, so that nobody leaves
+-- after it
 pub record IsLife (x : PlainLife) : Type 0 where
   pub falls : (k : ℕ) → x.survivors k ≡ leavers_in x k + x.survivors (suc k)
   pub ends : (k : ℕ) → x.years_left ≤ k → x.survivors k ≡ 0

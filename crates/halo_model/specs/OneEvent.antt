@@ -1,4 +1,5 @@
--- In each year the events on which an unmarked insurance by any cause pays number 1 where its body fails in the year, else 0.
+-- In each year the events on which an unmarked insurance by any cause pays number 1 where its body
+-- fails in the year, else 0.
 use Rattle.std.specs.Prelude.{◌≡◌, ℕ, suc, ◌+◌, ◌<◌, ◌≤◌, All, Bool, cond, not, ◌&&◌, nat_eq, length, None}
 use Rattle.halo_sums.specs.Sums.{sum_over}
 use Rattle.halo_status.specs.Exists.{exists}
@@ -25,10 +26,14 @@ payments_in_year pay last rank T o k =
 
 -- whether the body of a pay exists at time k and not at k + 1, seen as payments in advance see it
 abbrev pub fails_in_year : PlainPay → Outcome → ℕ → Bool
-fails_in_year pay o k = exists (lives_at k o) (is_on Due k) pay.body && not (exists (lives_at (suc k) o) (is_on Due (suc k)) pay.body)
+fails_in_year pay o k = exists (lives_at k o) (is_on Due k) pay.body
+    && not (exists (lives_at (suc k) o) (is_on Due (suc k)) pay.body)
 
 -- in each order taken, for a year from the start and from the deferral on
 abbrev pub OneEventAYear : Type 0
-OneEventAYear = (b : Basis) (pay : PlainPay) → pay.mark ≡ None → pay.causes ≡ None → IsLasting pay.body
-    → (T : ℕ) (o : Outcome) → length o ≡ length b.lives → (k : ℕ) → T ≤ k → pay.defer ≤ k → k < b.last_time
-    → All (λ order. payments_in_year pay b.last_time (rank_in order) T o k ≡ cond (fails_in_year pay o k) 1 0) (taken b)
+OneEventAYear = (b : Basis) (pay : PlainPay)
+    → pay.mark ≡ None → pay.causes ≡ None → IsLasting pay.body
+    → (T : ℕ) (o : Outcome)
+    → length o ≡ length b.lives → (k : ℕ) → T ≤ k → pay.defer ≤ k → k < b.last_time
+    → All (λ order. payments_in_year pay b.last_time (rank_in order) T o k
+    ≡ cond (fails_in_year pay o k) 1 0) (taken b)

@@ -7,4 +7,5 @@ use Rattle.halo_model.specs.Coefficient.{form}
 
 -- a set with a life that the body of a pay does not name has no coefficient
 abbrev pub UnnamedDoNotCount : Type 0
-UnnamedDoNotCount = (pay : PlainPay) → pay.mark ≡ None → (i : ℕ) → names_life i pay.body ≡ false → (t : ℕ) (s : List Bool) → in_set s i ≡ true → form pay t s ≡ pos 0
+UnnamedDoNotCount = (pay : PlainPay) → pay.mark ≡ None → (i : ℕ) → names_life i pay.body ≡ false
+    → (t : ℕ) (s : List Bool) → in_set s i ≡ true → form pay t s ≡ pos 0

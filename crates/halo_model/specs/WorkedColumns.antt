@@ -1,4 +1,5 @@
--- Worked commutation columns: of 4 alive at age 0 leave 2, then 1, then the last one, at the interest 1/1.
+-- Worked commutation columns: of 4 alive at age 0 leave 2, then 1, then the last one, at the
+-- interest 1/1.
 use Rattle.std.specs.Prelude.{◌≡◌, ℕ, ◌*◌, [], ◌∷◌}
 use Rattle.halo_table.specs.DecrementTable.{TableFile}
 use Rattle.halo_model.specs.Columns.{ColumnBasis, column_c, column_c_by, column_d, column_denominator, column_m, column_m_by, column_n, column_r, column_s, width_d, width_n, width_s}
@@ -6,7 +7,14 @@ use Rattle.halo_model.specs.SmallBasis.{row}
 
 -- the table, from age 0 on
 abbrev pub from_birth : TableFile
-from_birth = record { causes = [] ∷ []; tables = record { name = []; first_age = 0; rows = row 4 (2 ∷ []) ∷ row 2 (1 ∷ []) ∷ row 1 (1 ∷ []) ∷ [] } ∷ [] }
+from_birth = record {
+  causes = [] ∷ [];
+  tables = record {
+    name = [];
+    first_age = 0;
+    rows = row 4 (2 ∷ []) ∷ row 2 (1 ∷ []) ∷ row 1 (1 ∷ []) ∷ [];
+  } ∷ [];
+}
 
 abbrev pub halves : ColumnBasis
 halves = record { p = λ k. 1; q = λ k. 1; file = from_birth; table = 0 }

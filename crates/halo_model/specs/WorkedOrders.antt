@@ -12,12 +12,16 @@ halves counts = record { alive = λ i. 2; staying = λ i. 1; leaving = λ i. con
 abbrev pub first_lives : ℕ → ℕ → Bool
 first_lives n i = nat_lt i n
 
--- In the declared order the second of two is the first to leave with the chance 1/4. Over all orders, the first of two is with 3/8, the first of three with 7/24, and some of two with 3/4.
--- Of four lives, 1 alone of 1 and 2 comes before 0 in 4 of 24 orders. The mean of a product of 1/2 for who comes before life 0 of three, else 1, is 7/12.
+-- In the declared order the second of two is the first to leave with the chance 1/4. Over all
+-- orders, the first of two is with 3/8, the first of three with 7/24, and some of two with 3/4. Of
+-- four lives, 1 alone of 1 and 2 comes before 0 in 4 of 24 orders. The mean of a product of 1/2 for
+-- who comes before life 0 of three, else 1, is 7/12.
 pub record OrderRows : Type 0 where
-  pub second_of_two : first_leaving (halves (λ i. nat_eq i 1)) (rank_in (0 ∷ 1 ∷ [])) (0 ∷ 1 ∷ []) ≡ 1
+  pub second_of_two : first_leaving
+      (halves (λ i. nat_eq i 1)) (rank_in (0 ∷ 1 ∷ [])) (0 ∷ 1 ∷ []) ≡ 1
   pub first_of_two : first_leaving_evenly 2 (halves (λ i. nat_eq i 0)) (first_lives 2) ≡ 3
   pub first_of_three : first_leaving_evenly 3 (halves (λ i. nat_eq i 0)) (first_lives 3) ≡ 14
   pub some_of_two : first_leaving_evenly 2 (halves (λ i. true)) (first_lives 2) ≡ 6
-  pub one_before : length (filter (λ order. exactly_before order 0 (λ i. nat_eq i 1) (1 ∷ 2 ∷ [])) (orders_taken all_orders 4)) ≡ 4
+  pub one_before : length (filter (λ order. exactly_before order 0 (λ i. nat_eq i 1) (1 ∷ 2 ∷ []))
+      (orders_taken all_orders 4)) ≡ 4
   pub mean_of_three : product_evenly 3 0 (λ i. 1) (λ i. 2) (λ i. nat_lt 0 i) ≡ 14

@@ -20,19 +20,28 @@ no_chances n d w = record {
   within = record { low = omega (arith, ints); high = omega (arith, ints) };
 }
 
-pub one_chance_more : (n d : ℕ → ℕ) (w : ℕ) (xs : List ℕ) (x : ℕ) (i : Ends) → EnclosesChance (product_over xs n * n x) (product_over xs d * d x) (length xs * (w + 1) + w + 1) i → EnclosesProduct n d w (xs ++ x ∷ []) i
+pub one_chance_more : (n d : ℕ → ℕ) (w : ℕ) (xs : List ℕ) (x : ℕ) (i : Ends) → EnclosesChance (product_over xs n * n x)
+    (product_over xs d * d x) (length xs * (w + 1) + w + 1) i → EnclosesProduct n d w (xs ++ x ∷ []) i
 one_chance_more n d w xs x i c =
-    let more : length (xs ++ x ∷ []) * (w + 1) ≡ length xs * (w + 1) + w + 1 = omega (arith, ap (λ (k : ℕ). k * (w + 1)) (length-append xs (x ∷ []))) in
+    let more : length (xs ++ x ∷ []) * (w + 1) ≡ length xs * (w + 1) + w + 1 =
+    omega (arith, ap (λ (k : ℕ). k * (w + 1)) (length-append xs (x ∷ []))) in
     rw (product_over-push n xs x, product_over-push d xs x, more) c
 
 -- what is enclosed within a width is so within a greater one
 pub chance_wider : (n d v w : ℕ) (i : Ends) → v ≤ w → EnclosesChance n d v i → EnclosesChance n d w i
-chance_wider n d v w i h c = record { encloses = c.encloses; narrow = record { near = let k = c.narrow.near in omega (arith, ints) }; within = c.within }
+chance_wider n d v w i h c = record {
+  encloses = c.encloses;
+  narrow = record { near = let k = c.narrow.near in omega (arith, ints) };
+  within = c.within;
+}
 
 -- a choice between two chances in the same parts
-pub chance_mix : (s d x y e u w : ℕ) (i : Ends) → 0 < e → Encloses i (pos (s * x * e + (d - s) * y * e)) (d * e * e) → HasWidth i (u + w + 1) → IsWithin i (pos 0) (pos fine) → EnclosesChance (s * x + (d - s) * y) (d * e) (u + w + 1) i
+pub chance_mix : (s d x y e u w : ℕ) (i : Ends)
+    → 0 < e → Encloses i (pos (s * x * e + (d - s) * y * e)) (d * e * e) → HasWidth i (u + w + 1)
+    → IsWithin i (pos 0) (pos fine) → EnclosesChance (s * x + (d - s) * y) (d * e) (u + w + 1) i
 chance_mix s d x y e u w i positive encloses narrow within = record {
-  encloses = encloses_reduced i (pos (s * x + (d - s) * y)) (d * e) e positive (rw (parted (s * x) ((d - s) * y)) encloses);
+  encloses =
+      encloses_reduced i (pos (s * x + (d - s) * y)) (d * e) e positive (rw (parted (s * x) ((d - s) * y)) encloses);
   narrow = narrow;
   within = within;
 }

@@ -16,7 +16,8 @@ count_true-le-length (true ∷ bs) = omega (arith, count_true-le-length bs)
 count_true-le-length (false ∷ bs) = omega (arith, count_true-le-length bs)
 
 -- each member either exists or does not
-pub length-each_exists : (alive on : ℕ → Bool) (ss : List Status) → length (each_exists alive on (trees_in ss)) ≡ length ss
+pub length-each_exists : (alive on : ℕ → Bool) (ss : List Status)
+    → length (each_exists alive on (trees_in ss)) ≡ length ss
 length-each_exists alive on [] = refl
 length-each_exists alive on (s ∷ ss) = ap suc (length-each_exists alive on ss)
 
@@ -42,15 +43,18 @@ any_counted (true ∷ bs) = positive _
 any_counted (false ∷ bs) = any_counted bs
 
 -- where so many members exist, joint life and last survivor are decided by that number
-module _ (alive on : ℕ → Bool) (ss : List Status) (count : ℕ) (counted : count ≡ count_true (each_exists alive on (trees_in ss))) where
+module _ (alive on : ℕ → Bool)
+    (ss : List Status) (count : ℕ) (counted : count ≡ count_true (each_exists alive on (trees_in ss))) where
   pub joint_exists : (members : ℕ) → members ≡ length ss → nat_eq count members ≡ exists alive on (joint (trees_in ss))
-  joint_exists members e = rw (counted, e, ← length-each_exists alive on ss) (all_counted (each_exists alive on (trees_in ss)))
+  joint_exists members e =
+      rw (counted, e, ← length-each_exists alive on ss) (all_counted (each_exists alive on (trees_in ss)))
 
   pub last_exists : nat_lt 0 count ≡ exists alive on (last (trees_in ss))
   last_exists = rw counted (any_counted (each_exists alive on (trees_in ss)))
 
 -- one more can be counted where one that exists is left
-pub count_has_room : (alive on : ℕ → Bool) (ss : List Status) (i : ℕ) (s : Status) (count : ℕ) → i < length ss → s ≡ get_or ss i s
+pub count_has_room : (alive on : ℕ → Bool) (ss : List Status) (i : ℕ) (s : Status) (count : ℕ)
+    → i < length ss → s ≡ get_or ss i s
     → exists alive on (tree_of s) ≡ true
     → count + count_true (each_exists alive on (trees_in (drop i ss))) ≡ count_true (each_exists alive on (trees_in ss))
     → count < length ss

@@ -44,7 +44,8 @@ both false b e = absurd (cc)
 equal : (x y : ℕ) → nat_eq x y ≡ true → x ≡ y
 equal x y e = grind (arith, nat_tests)
 
-at_or_below : (n word i j : ℕ) → nat_eq (bit_at word n) (bit_at n i) ≡ true → (j < n → bit_at word j ≡ bit_at j i) → (j < n) ⊎ (n ≤ j) → j < suc n → bit_at word j ≡ bit_at j i
+at_or_below : (n word i j : ℕ) → nat_eq (bit_at word n) (bit_at n i) ≡ true
+    → (j < n → bit_at word j ≡ bit_at j i) → (j < n) ⊎ (n ≤ j) → j < suc n → bit_at word j ≡ bit_at j i
 at_or_below n word i j e below (inl low) h = below low
 at_or_below n word i j e below (inr high) h = let s : j ≡ n = omega arith in rw s (equal _ _ e)
 
@@ -65,7 +66,8 @@ low_life block (suc (suc (suc (suc (suc zero))))) j h = omega arith
 low_life block (suc (suc (suc (suc (suc (suc i)))))) j h = absurd (omega arith)
 
 pub life_by_word : (block word i : ℕ) → i < 6 → same_below 64 word i ≡ true → IsInBlock block (λ alive. alive i) word
-life_by_word block word i small e j h = ap (λ n. nat_eq n 1) (found_below 64 word i e j h ∙ sym (low_life block i j small))
+life_by_word block word i small e j h =
+    ap (λ n. nat_eq n 1) (found_below 64 word i e j h ∙ sym (low_life block i j small))
 
 -- and a life from 6 on where the block has it
 high_life : (block i j : ℕ) → j < 64 → 6 ≤ i → bit_at (64 * block + j) i ≡ bit_at block (i - 6)
@@ -73,9 +75,11 @@ high_life block i j small h =
     let parts : i ≡ 6 + (i - 6) = omega arith in
     let split : 2 ^ i ≡ 64 * 2 ^ (i - 6) = ap (λ n. 2 ^ n) parts ∙ pow-add 2 6 (i - 6) in
     let whole : (64 * block + j) / 64 ≡ block = omega arith in
-    ap (λ n. (64 * block + j) / n % 2) split ∙ ap (λ n. n % 2) (sym (div-div-eq-div-mul (64 * block + j) 64 (2 ^ (i - 6))) ∙ ap (λ n. n / 2 ^ (i - 6)) whole)
+    ap (λ n. (64 * block + j) / n % 2) split
+    ∙ ap (λ n. n % 2) (sym (div-div-eq-div-mul (64 * block + j) 64 (2 ^ (i - 6))) ∙ ap (λ n. n / 2 ^ (i - 6)) whole)
 
-pub life_by_block : (block word i : ℕ) → 6 ≤ i → ((j : ℕ) → j < 64 → has_bit word j ≡ has_bit block (i - 6)) → IsInBlock block (λ alive. alive i) word
+pub life_by_block : (block word i : ℕ)
+    → 6 ≤ i → ((j : ℕ) → j < 64 → has_bit word j ≡ has_bit block (i - 6)) → IsInBlock block (λ alive. alive i) word
 life_by_block block word i h is j small = is j small ∙ ap (λ n. nat_eq n 1) (sym (high_life block i j small h))
 
 -- exactly so many are at least so many and not one more
@@ -83,5 +87,7 @@ pub exactly_by_both : (c r : ℕ) → (nat_le r c && not (nat_le (r + 1) c)) ≡
 exactly_by_both c r = grind (arith, nat_tests)
 
 -- the bits of one word that another does not have
-pub has_bit-and_not : (a b j : ℕ) (x y : Bool) → b < 2 ^ 64 → j < 64 → has_bit a j ≡ x → has_bit b j ≡ y → has_bit (bit_and a (bit_not w64 b)) j ≡ (x && not y)
-has_bit-and_not a b j x y small h e f = has_bit-and a (bit_not w64 b) j ∙ ap (λ z. z && has_bit (bit_not w64 b) j) e ∙ ap (λ z. x && z) (has_bit-not b j small h ∙ ap not f)
+pub has_bit-and_not : (a b j : ℕ) (x y : Bool)
+    → b < 2 ^ 64 → j < 64 → has_bit a j ≡ x → has_bit b j ≡ y → has_bit (bit_and a (bit_not w64 b)) j ≡ (x && not y)
+has_bit-and_not a b j x y small h e f = has_bit-and a (bit_not w64 b) j
+    ∙ ap (λ z. z && has_bit (bit_not w64 b) j) e ∙ ap (λ z. x && z) (has_bit-not b j small h ∙ ap not f)

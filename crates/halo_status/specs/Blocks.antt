@@ -2,7 +2,8 @@
 use Rattle.std.specs.Prelude.{◌≡◌, ℕ, zero, suc, ◌+◌, ◌*◌, ◌<◌, Bool, List, get_or}
 use Rattle.halo_sums.specs.Masks.{has_bit}
 
--- the bits of a number tell what holds on the 64 sets of a block: those whose masks are 64 times its number and the 63 above it
+-- the bits of a number tell what holds on the 64 sets of a block: those whose masks are 64 times
+-- its number and the 63 above it
 abbrev pub IsInBlock : ℕ → ((ℕ → Bool) → Bool) → ℕ → Type 0
 IsInBlock block holds word = (j : ℕ) → j < 64 → has_bit word j ≡ holds (has_bit (64 * block + j))
 

@@ -8,6 +8,7 @@ invariant-loop-k l =
     record {
       same : length l.counts ≡ length l.fn.counts;
       fewer : l.fewer ≡ fewer_at l.fn.counts l.k;
-      passed : (k : ℕ) → k < l.k → get_or l.counts k 0 ≡ bit_or (get_or l.fn.counts k 0) (bit_and (fewer_at l.fn.counts k) l.member);
+      passed : (k : ℕ)
+          → k < l.k → get_or l.counts k 0 ≡ bit_or (get_or l.fn.counts k 0) (bit_and (fewer_at l.fn.counts k) l.member);
       left : (k : ℕ) → l.k ≤ k → get_or l.counts k 0 ≡ get_or l.fn.counts k 0;
     }

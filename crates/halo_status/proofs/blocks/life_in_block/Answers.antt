@@ -1,4 +1,5 @@
--- The sets of a life below 6 stand in the same places of each block, and a life from 6 on is there in a whole block or in none of it.
+-- The sets of a life below 6 stand in the same places of each block, and a life from 6 on is there in a whole block or
+-- in none of it.
 use Rattle.std.proofs.Common.{arith, refl}
 use Rattle.halo_status.proofs.Words.{life_by_block, life_by_word}
 use Rattle.halo_status.proofs.blocks.life_in_block.Goals as goal
@@ -22,4 +23,5 @@ pub returns-in-5 : goal.returns-in-5
 returns-in-5 c = rw c.in-5.is (life_by_word c.args.block _ 5 (omega arith) refl)
 
 pub returns-in_default : goal.returns-in_default
-returns-in_default c = life_by_block c.args.block c.all_or_none.result c.args.life (omega arith) (rw c.has_bit.ensures at c.all_or_none.ensures)
+returns-in_default c = life_by_block c.args.block c.all_or_none.result c.args.life
+    (omega arith) (rw c.has_bit.ensures at c.all_or_none.ensures)
