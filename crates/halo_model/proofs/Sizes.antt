@@ -26,11 +26,14 @@ most-bound Insurance m short factor = omega arith
 most-bound Due m short factor = omega (arith, mul-le m.factor (m.horizon + 1) 201 201 factor (omega arith))
 most-bound Immediate m short factor = omega (arith, mul-le m.factor (m.horizon + 1) 201 201 factor (omega arith))
 
+-- what a pay of amount 1 within the limits of contracts is worth at most: 201 payments of at most 201
+pub one-bound : (b : Basis) (pay : PlainPay) → IsShortPay b pay → most_worth pay.kind (measures_of b pay) ≤ 40401
+one-bound b pay short = most-bound pay.kind (measures_of b pay) short.years (factor-bound pay.vary _ short.years short.vary)
+
 amounts-bound : (b : Basis) (pays : List PlainPay) → All (IsShortPay b) pays → benefit_most b pays ≤ 40401 * sum_over pays (λ pay. pay.amount)
 amounts-bound b [] short = omega arith
 amounts-bound b (pay ∷ pays) short =
-    let first = All-head (IsShortPay b) pay pays short in
-    let most = most-bound pay.kind (measures_of b pay) first.years (factor-bound pay.vary _ first.years first.vary) in
+    let most = one-bound b pay (All-head (IsShortPay b) pay pays short) in
     let times : pay_most b pay ≤ pay.amount * 40401 = mul-le-mul_left pay.amount most in
     omega (arith, times, amounts-bound b pays (All-tail (IsShortPay b) pay pays short))
 

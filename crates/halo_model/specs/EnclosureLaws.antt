@@ -1,8 +1,8 @@
 -- From the intervals of the pays, each with amount 1, to those of the total, the premium and the
 -- reserves.
-use Rattle.std.specs.Prelude.{◌≡◌, ℕ, ◌+◌, ◌*◌, ◌++◌, ◌^◌, ◌≤◌, All, Bool, List, [], ◌∷◌, Some, None, ℤ, pos, ◌+ℤ◌, ◌-ℤ◌, ◌*ℤ◌, ◌≤ℤ◌}
-use Rattle.halo_num.specs.Ends.{Ends, HasWidth, fine}
-use Rattle.halo_num.specs.Enclosure.{Encloses}
+use Rattle.std.specs.Prelude.{◌≡◌, ℕ, ◌*◌, ◌++◌, ◌^◌, ◌≤◌, All, Bool, List, [], ◌∷◌, Some, None, ℤ, pos, ◌+ℤ◌, ◌*ℤ◌}
+use Rattle.halo_num.specs.Derived.{IsLessProduct, IsQuotient}
+use Rattle.halo_num.specs.Ends.{Ends, fine}
 use Rattle.halo_sums.specs.Sums.{sum_over}
 use Rattle.halo_status.specs.Tree.{Tree}
 use Rattle.halo_status.specs.ValidPay.{HasValidVary}
@@ -29,28 +29,12 @@ OneBenefitMore = (b : Basis)
     → more.hi ≡ sum.hi +ℤ value.hi *ℤ pos pay.amount
     → EnclosesBenefits b (pays ++ pay ∷ []) T S more
 
--- i is a quotient of intervals, rounded outward: it encloses each quotient of a fraction in one by
--- a fraction in the other
-pub record IsQuotient (benefits due i : Ends) : Type 0 where
-  pub encloses : (n : ℤ) (m d : ℕ) → Encloses benefits n d → Encloses due (pos m) d → Encloses i n m
-  pub narrow : (v w t : ℕ) → benefits.hi ≤ℤ pos (t * fine)
-      → HasWidth benefits v → HasWidth due w → HasWidth i (v + t * w + 1)
-  pub from : pos 0 ≤ℤ i.lo
-  pub bound : (t : ℕ) → benefits.hi ≤ℤ pos (t * fine) → i.hi ≤ℤ pos (t * fine)
-
 -- the premium: the benefits at the start over the value of a premium of 1
 abbrev pub PremiumOfBenefits : Type 0
 PremiumOfBenefits = (b : Basis) (pays : List PlainPay) (status : Tree) (benefits due i : Ends)
     → EnclosesBenefits b pays 0 all_lives benefits
     → EnclosesOne b (premium_pay status) 0 all_lives due
     → IsQuotient benefits due i → EnclosesPremium b pays status i
-
--- i is an interval less a product of two, rounded outward
-pub record IsLessProduct (later premium due i : Ends) : Type 0 where
-  pub encloses : (n m k : ℤ) (d e : ℕ) → Encloses later n d
-      → Encloses premium m e → Encloses due k d → Encloses i (n *ℤ pos e -ℤ m *ℤ k) (d * e)
-  pub narrow : (v w u t g : ℕ) → premium.hi ≤ℤ pos (t * fine) → due.hi ≤ℤ pos (g * fine)
-      → HasWidth later v → HasWidth premium w → HasWidth due u → HasWidth i (v + t * u + g * w + 1)
 
 -- the reserve with a premium: the pays still to come, less the premium times the value of a premium
 -- of 1 still to come, whose status cannot outlast the last time
