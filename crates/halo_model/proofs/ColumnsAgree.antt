@@ -3,7 +3,7 @@ use Rattle.std.proofs.Common.{◌≡◌, ℕ, zero, suc, ◌+◌, ◌*◌, ◌-�
 use Rattle.std.proofs.Math.Nat.{pow-succ', pow-zero}
 use Rattle.std.proofs.lemmas.Bool.Decides.{nat_tests}
 use Rattle.halo_sums.specs.Sums.{numbers_from, product_over, sum_over}
-use Rattle.halo_sums.proofs.Numbers.{numbers_from-split, sum_over-numbers_next, sum_over-numbers_none}
+use Rattle.halo_sums.proofs.Numbers.{numbers_from-split, sum_over-numbers_ext, sum_over-numbers_next, sum_over-numbers_none}
 use Rattle.halo_sums.proofs.Sums.{sum_over-append, sum_over-ext, sum_over-scale_right}
 use Rattle.halo_status.specs.Tree.{life}
 use Rattle.halo_status.specs.declared.pay.Kind.TheVariants.{Due, Insurance}
@@ -32,17 +32,6 @@ sum-later : (first count : ℕ) (f : ℕ → ℕ)
 sum-later zero count f = sum_over-ext (numbers_from 0 count) _ _ (λ t. ap f (omega arith))
 sum-later (suc first) count f = sum_over-numbers_next count first f
     ∙ sum-later first count (λ i. f (suc i)) ∙ sum_over-ext (numbers_from 0 count) _ _ (λ t. ap f (omega arith))
-
--- equal at each of the numbers, equal in sum
-sum-within : (count first : ℕ) (f g : ℕ → ℕ) → ((i : ℕ) → first ≤ i → i < first + count → f i ≡ g i)
-    → sum_over (numbers_from first count) f ≡ sum_over (numbers_from first count) g
-sum-within zero first f g same = refl
-sum-within (suc count) first f g same =
-    omega (
-      arith,
-      same first (omega arith) (omega arith),
-      sum-within count (suc first) f g (λ i from to. same i (omega arith) (omega arith)),
-    )
 
 -- with one fraction of interest, discounts and interest are powers
 module _ (p q last_time : ℕ) (lives : List PlainLife) (ties : Ties) where
@@ -97,7 +86,7 @@ module _ (p q : ℕ) (file : TableFile) (table age last_time : ℕ) (ties : Ties
       → sum_over (numbers_from 0 x.years_left) present * d ≡ sum_from c column age * den
   sums-meet present column d den each =
       sym (sum_over-scale_right (numbers_from 0 x.years_left) d present)
-      ∙ sum-within x.years_left 0 _ _ (λ t from to. each t (omega arith))
+      ∙ sum_over-numbers_ext x.years_left 0 _ _ (λ t from to. each t (omega arith))
       ∙ sum_over-scale_right (numbers_from 0 x.years_left) den (λ t. column (age + t))
       ∙ ap (λ n. n * den) (sym (sum-later age x.years_left column))
 
