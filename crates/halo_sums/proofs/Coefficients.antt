@@ -77,11 +77,11 @@ coefficients-add f (true ∷ u) = omega (
   coefficients-add (λ v. f (true ∷ v)) u,
 )
 
-alternating-sub : (n : ℕ) (y z : ℤ) → alternating n (y -ℤ z) ≡ alternating n y -ℤ alternating n z
+pub alternating-sub : (n : ℕ) (y z : ℤ) → alternating n (y -ℤ z) ≡ alternating n y -ℤ alternating n z
 alternating-sub zero y z = refl
 alternating-sub (suc n) y z = omega (arith, ints, alternating-sub n y z)
 
-coefficient-sub : (f g : List Bool → ℤ) (s : List Bool) → coefficient (λ u. f u -ℤ g u) s ≡ coefficient f s -ℤ coefficient g s
+pub coefficient-sub : (f g : List Bool → ℤ) (s : List Bool) → coefficient (λ u. f u -ℤ g u) s ≡ coefficient f s -ℤ coefficient g s
 unfolding coefficient
 coefficient-sub f g s = int_sum_over-ext (subsets s) _ _ (λ u. alternating-sub (size_of s - size_of u) (f u) (g u))
     ∙ int_sum_over-sub (subsets s) (λ u. alternating (size_of s - size_of u) (f u)) (λ u. alternating (size_of s - size_of u) (g u))

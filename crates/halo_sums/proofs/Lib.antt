@@ -8,3 +8,4 @@ pub mod Masks
 pub mod Bounds
 pub mod SetMasks
 pub mod Choices
+pub mod SameLength
