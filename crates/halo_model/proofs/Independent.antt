@@ -1,8 +1,7 @@
 -- The chance of a status of independent lives, as a sum over all sets of them, and over the outcomes of lives.
-use Rattle.std.proofs.Common.{◌≡◌, ◌≢◌, ℕ, zero, suc, ◌+◌, ◌-◌, ◌*◌, ◌<◌, ◌≤◌, arith, refl, ap, sym, ◌∙◌, List, [], ◌∷◌, length, Bool, true, false, cond, nat_eq, ℤ, pos, ◌+ℤ◌, ◌*ℤ◌, ◌-ℤ◌, ⊎_elim}
+use Rattle.std.proofs.Common.{◌≡◌, ◌≢◌, ℕ, zero, suc, ◌+◌, ◌-◌, ◌*◌, ◌<◌, ◌≤◌, arith, refl, ap, sym, ◌∙◌, List, [], ◌∷◌, length, Bool, true, false, cond, nat_eq, ℤ, pos, ◌+ℤ◌, ◌*ℤ◌, ◌-ℤ◌}
 use Rattle.std.proofs.Math.IntN.{*ℤ-zero}
 use Rattle.std.proofs.lemmas.Int.{ints}
-use Rattle.std.proofs.lemmas.Bool.{cases_lt}
 use Rattle.halo_sums.specs.Sums.{indicator, int_sum_over, numbers_from, product_over}
 use Rattle.halo_sums.specs.Sets.{in_set, sets}
 use Rattle.halo_sums.proofs.Integers.{mul_add, mul_assoc, mul_left_comm, sub_mul}

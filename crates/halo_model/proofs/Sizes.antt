@@ -28,9 +28,11 @@ most-bound Immediate m short factor = omega (arith, mul-le m.factor (m.horizon +
 
 -- what a pay of amount 1 within the limits of contracts is worth at most: 201 payments of at most 201
 pub one-bound : (b : Basis) (pay : PlainPay) → IsShortPay b pay → most_worth pay.kind (measures_of b pay) ≤ 40401
-one-bound b pay short = most-bound pay.kind (measures_of b pay) short.years (factor-bound pay.vary _ short.years short.vary)
+one-bound b pay short =
+    most-bound pay.kind (measures_of b pay) short.years (factor-bound pay.vary _ short.years short.vary)
 
-amounts-bound : (b : Basis) (pays : List PlainPay) → All (IsShortPay b) pays → benefit_most b pays ≤ 40401 * sum_over pays (λ pay. pay.amount)
+amounts-bound : (b : Basis) (pays : List PlainPay)
+    → All (IsShortPay b) pays → benefit_most b pays ≤ 40401 * sum_over pays (λ pay. pay.amount)
 amounts-bound b [] short = omega arith
 amounts-bound b (pay ∷ pays) short =
     let most = one-bound b pay (All-head (IsShortPay b) pay pays short) in

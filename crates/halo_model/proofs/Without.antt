@@ -1,5 +1,5 @@
 -- The joint survivors of a set without one of its lives.
-use Rattle.std.proofs.Common.{◌≡◌, ℕ, zero, suc, ◌*◌, ◌<◌, arith, refl, ap, ◌∙◌, List, [], ◌∷◌, length, Bool, true, false, cond, not, ◌&&◌, nat_eq, IsTrue}
+use Rattle.std.proofs.Common.{◌≡◌, ℕ, suc, ◌*◌, arith, refl, ap, ◌∙◌, List, ◌∷◌, Bool, true, false, cond, not, ◌&&◌, nat_eq}
 use Rattle.std.proofs.Math.Path.{fun_ext}
 use Rattle.std.proofs.lemmas.Bool.Decides.{nat_tests}
 use Rattle.halo_model.specs.EvenTies.{without}

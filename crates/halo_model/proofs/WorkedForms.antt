@@ -1,5 +1,5 @@
 -- The worked forms and counts, by computation; the value of two lives through many years by its parts.
-use Rattle.std.proofs.Common.{◌≡◌, ℕ, suc, ◌+◌, ◌*◌, ◌-◌, ◌<◌, arith, refl, ap, ◌∙◌, cond, nat_lt, pos, ◌≢◌, sym, get_or, ℤ, List, zero}
+use Rattle.std.proofs.Common.{◌≡◌, ℕ, suc, ◌+◌, ◌*◌, ◌-◌, arith, refl, ap, ◌∙◌, cond, nat_lt, pos, ◌≢◌, sym, get_or, ℤ, List, zero}
 use Rattle.std.proofs.lemmas.Bool.Decides.{nat_tests}
 use Rattle.std.proofs.lemmas.Int.{ints}
 use Rattle.halo_sums.specs.Coefficients.{coefficient}

@@ -10,7 +10,6 @@ use Rattle.halo_sums.specs.Coefficients.{coefficient}
 use Rattle.halo_sums.proofs.Coefficients.{coefficients-add, coefficients-unique}
 use Rattle.halo_sums.proofs.IntSums.{int_sum_over-ext, int_sum_over-none, int_sum_over-scale, int_sum_over-scale_right, int_sum_over-sub, int_sum_over-swap}
 use Rattle.halo_sums.proofs.Numbers.{int_sum_over-numbers_ext}
-use Rattle.halo_sums.proofs.Sums.{sum_over-ext, sum_over-none}
 use Rattle.halo_status.specs.Pay.{PlainPay}
 use Rattle.halo_status.specs.Naming.{names_life, names_term}
 use Rattle.halo_model.specs.Backward.{outside}

@@ -1,6 +1,6 @@
 -- From the intervals of the pays, each with amount 1, to those of the total, the premium and the
 -- reserves.
-use Rattle.std.specs.Prelude.{◌≡◌, ℕ, ◌*◌, ◌++◌, ◌^◌, ◌≤◌, All, Bool, List, [], ◌∷◌, Some, None, ℤ, pos, ◌+ℤ◌, ◌*ℤ◌}
+use Rattle.std.specs.Prelude.{◌≡◌, ℕ, ◌*◌, ◌++◌, ◌^◌, ◌≤◌, All, Bool, List, [], ◌∷◌, Some, None, pos, ◌+ℤ◌, ◌*ℤ◌}
 use Rattle.halo_num.specs.Derived.{IsLessProduct, IsQuotient}
 use Rattle.halo_num.specs.Ends.{Ends, fine}
 use Rattle.halo_sums.specs.Sums.{sum_over}

@@ -1,5 +1,5 @@
 -- A life as plain data: the columns of its decrement table, from the start of the contract on.
-use Rattle.std.specs.Prelude.{◌≡◌, ⊤, ℕ, suc, ◌+◌, ◌<◌, ◌≤◌, Bool, cond, List, [], ◌∷◌}
+use Rattle.std.specs.Prelude.{◌≡◌, ⊤, ℕ, suc, ◌+◌, ◌≤◌, Bool, cond, List, [], ◌∷◌}
 use Rattle.halo_sums.specs.Sums.{numbers_from, sum_over}
 
 -- for how many years its table goes on, how many causes of decrement there are, the survivors (l)

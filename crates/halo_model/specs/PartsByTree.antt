@@ -1,5 +1,5 @@
 -- The parts of a value of a pay whose body is read once, along the tree: laws.
-use Rattle.std.specs.Prelude.{◌≡◌, ℕ, zero, suc, ◌-◌, ◌<◌, ◌≤◌, Bool, false, IsTrue, nat_le, nat_lt, List, [], ◌∷◌, length, Option, Some, None, pos, ◌-ℤ◌, ◌*ℤ◌}
+use Rattle.std.specs.Prelude.{◌≡◌, ℕ, zero, suc, ◌-◌, ◌<◌, ◌≤◌, Bool, IsTrue, nat_le, nat_lt, List, [], ◌∷◌, length, Option, Some, None, pos, ◌-ℤ◌, ◌*ℤ◌}
 use Rattle.halo_sums.specs.Sums.{indicator}
 use Rattle.halo_status.specs.Tree.{Tree, Trees, joint, last, exactly, none, more, member_at, member_count}
 use Rattle.halo_status.specs.Naming.{NamesLivesBelow, names_life, names_term}

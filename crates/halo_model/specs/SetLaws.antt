@@ -1,15 +1,11 @@
 -- The value of an insurance, and each part of it, is the sum over the sets of lives that are alive
 -- of what falls due on each set.
-use Rattle.std.specs.Prelude.{◌≡◌, ⊤, ℕ, ◌<◌, ◌≤◌, All, Bool, List, [], ◌∷◌, length, pos, ◌*ℤ◌}
+use Rattle.std.specs.Prelude.{◌≡◌, ℕ, ◌<◌, ◌≤◌, Bool, List, length, pos, ◌*ℤ◌}
 use Rattle.halo_sums.specs.Sums.{int_sum_over}
 use Rattle.halo_sums.specs.Sets.{in_set, subsets}
 use Rattle.halo_status.specs.Pay.{PlainPay}
-use Rattle.halo_table.specs.DecrementTable.{TableFile}
-use Rattle.halo_table.specs.Sound.{IsSound}
-use Rattle.halo_table.specs.declared.lives.Life.{Life}
 use Rattle.halo_model.specs.Backward.{outside}
-use Rattle.halo_model.specs.Life.{AreLives, PlainLife}
-use Rattle.halo_model.specs.FromTables.{HasRow, lives_of}
+use Rattle.halo_model.specs.Life.{AreLives}
 use Rattle.halo_model.specs.Outcome.{joint_survivors}
 use Rattle.halo_model.specs.Order.{rank_in}
 use Rattle.halo_model.specs.Basis.{Basis, taken}

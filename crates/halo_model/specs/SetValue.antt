@@ -1,6 +1,6 @@
 -- The value of an insurance by sets of lives, from the last year back to the first: for each set,
 -- what falls due on the lives of the set if all of them are alive, with the coefficient of the set.
-use Rattle.std.specs.Prelude.{ℕ, zero, suc, ◌-◌, Bool, true, false, not, cond, ◌&&◌, nat_eq, nat_le, List, length, Option, Some, None, ℤ, pos, ◌+ℤ◌, ◌-ℤ◌, ◌*ℤ◌}
+use Rattle.std.specs.Prelude.{ℕ, zero, suc, ◌-◌, Bool, true, false, cond, ◌&&◌, nat_eq, nat_le, List, length, Option, Some, None, ℤ, pos, ◌+ℤ◌, ◌-ℤ◌, ◌*ℤ◌}
 use Rattle.halo_sums.specs.Sums.{int_sum_over, numbers_from}
 use Rattle.halo_sums.specs.Sets.{in_set}
 use Rattle.halo_status.specs.Tree.{Tree, member_at}

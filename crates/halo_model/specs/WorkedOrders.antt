@@ -1,8 +1,9 @@
 -- Worked numbers of orders: lives of whom half leave in a year.
 use Rattle.std.specs.Prelude.{◌≡◌, ℕ, Bool, true, cond, nat_eq, nat_lt, [], ◌∷◌, filter, length}
+use Rattle.halo_sums.specs.Sums.{sum_over}
 use Rattle.halo_model.specs.Order.{all_orders, orders_taken, rank_in}
 use Rattle.halo_model.specs.EvenTies.{YearNumbers, first_leaving, first_leaving_evenly}
-use Rattle.halo_model.specs.OrderLaws.{exactly_before, product_evenly}
+use Rattle.halo_model.specs.OrderLaws.{exactly_before, product_by_rank}
 
 -- of two alive one leaves and one stays; those who leave count for some lives
 abbrev pub halves : (ℕ → Bool) → YearNumbers
@@ -24,4 +25,5 @@ pub record OrderRows : Type 0 where
   pub some_of_two : first_leaving_evenly 2 (halves (λ i. true)) (first_lives 2) ≡ 6
   pub one_before : length (filter (λ order. exactly_before order 0 (λ i. nat_eq i 1) (1 ∷ 2 ∷ []))
       (orders_taken all_orders 4)) ≡ 4
-  pub mean_of_three : product_evenly 3 0 (λ i. 1) (λ i. 2) (λ i. nat_lt 0 i) ≡ 14
+  pub mean_of_three : sum_over (orders_taken all_orders 3)
+      (λ order. product_by_rank (λ i. 1) (λ i. 2) (rank_in order) 0 (1 ∷ 2 ∷ [])) ≡ 14

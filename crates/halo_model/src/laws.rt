@@ -14,7 +14,7 @@ ghost use Rattle.halo_model.specs.Laws.{ExpectedByCoefficients, ExpectedBySets, 
 ghost use Rattle.halo_model.specs.Line.{PayHasLine, PremiumHasLine, ReserveHasLine, TotalHasLine};
 ghost use Rattle.halo_model.specs.MarkLaws.{FirstMarksAddUp, RanksAddUp};
 ghost use Rattle.halo_model.specs.OneLife.{DueOnOneLife, InsuranceOnOneLife};
-ghost use Rattle.halo_model.specs.OrderLaws.{FirstLeavingEvenly, LeavingsOfASet, MeanOverOrders, MeansByTheFirst};
+ghost use Rattle.halo_model.specs.OrderLaws.{FirstLeavingEvenly, LeavingsOfASet, MeanOverOrders};
 ghost use Rattle.halo_model.specs.OrderLaws.{OrdersCounted, SomeLeavesInEachOrder};
 ghost use Rattle.halo_model.specs.PartsByTree.{ChanceOnEndByTree, ChanceOnLeavingByTree, ExistingByTree, EndLossIsNotNegative, LossIsNotNegative, PayLossIsNotNegative};
 ghost use Rattle.halo_model.specs.OneEvent.{OneEventAYear};
@@ -203,11 +203,9 @@ pub fn orders_are_counted()
 {}
 
 /// The mean over all orders of a product over some lives, in which a life counts one number where
-/// it comes before a given life and another where it does not: by how many come before it, and by
-/// which of them is the first.
+/// it comes before a given life and another where it does not, by how many come before it.
 pub fn mean_over_orders()
-    ensures by_number { MeanOverOrders }
-    ensures by_the_first { MeansByTheFirst }
+    ensures { MeanOverOrders }
 {}
 
 /// The first of a set of lives to leave in a year. What the chances of the leavings ask for is that
