@@ -44,8 +44,12 @@ survivors c x = survivors_at c.file c.table x
 abbrev pub leavers_by_cause : ColumnBasis → ℕ → ℕ → ℕ
 leavers_by_cause c j x = leavers_at c.file c.table x j
 
+abbrev pub leavers_at_age : TableFile → ℕ → ℕ → ℕ
+leavers_at_age file table x =
+    sum_over (numbers_from 0 (length file.causes)) (λ j. leavers_at file table x j)
+
 abbrev pub leavers : ColumnBasis → ℕ → ℕ
-leavers c x = sum_over (numbers_from 0 (length c.file.causes)) (λ j. leavers_by_cause c j x)
+leavers c x = leavers_at_age c.file c.table x
 
 -- the sum of a column from an age to the last one
 abbrev pub sum_from : ColumnBasis → (ℕ → ℕ) → ℕ → ℕ
