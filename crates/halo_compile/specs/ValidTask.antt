@@ -3,8 +3,6 @@ use Rattle.std.specs.Prelude.{◌≡◌, ℕ, ◌^◌, ◌≤◌}
 use Rattle.halo_status.specs.Naming.{NamesLivesBelow}
 use Rattle.halo_status.specs.Pay.{pay_of}
 use Rattle.halo_status.specs.ValidPay.{IsValidPay}
-use Rattle.halo_interest.specs.Rates.{discount_denominator, discount_numerator}
-use Rattle.halo_interest.specs.Powers.{ArePowers}
 use Rattle.halo_model.specs.FromTables.{lives_of}
 use Rattle.halo_model.specs.Horizon.{horizon}
 use Rattle.halo_compile.specs.Form.{IsForm}
@@ -18,4 +16,3 @@ pub record IsTask {n m : ℕ} (task : Task n m) : Type 0 where
   pub horizon_is : task.horizon ≡ horizon (lives_of task.group.now.file task.group.now.lives) (pay_of task.pay.now).body
   pub horizon_in : task.horizon ≤ 200
   pub form : IsForm (pay_of task.pay.now) n task.horizon task.form.now
-  pub powers : ArePowers (discount_numerator task.interest.now) (discount_denominator task.interest.now) task.group.now.start task.powers.now

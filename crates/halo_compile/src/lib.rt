@@ -10,7 +10,7 @@ mod existence;
 mod form;
 mod memory;
 mod segments;
-mod task;
+pub mod task;
 #[cfg(test)]
 mod tests;
 
