@@ -27,15 +27,22 @@ difference_passes zero f = f
 difference_passes (suc life) f = difference_pass life (difference_passes life f)
 
 -- the pass for life 0 may come first
-first_sum : (n : ℕ) (f : List Bool → ℤ) (b : Bool) (s : List Bool) → sum_passes (suc n) f (b ∷ s) ≡ sum_passes n (λ u. f (b ∷ u) +ℤ cond b (f (false ∷ u)) (pos 0)) s
+first_sum : (n : ℕ) (f : List Bool → ℤ) (b : Bool) (s : List Bool)
+    → sum_passes (suc n) f (b ∷ s) ≡ sum_passes n (λ u. f (b ∷ u) +ℤ cond b (f (false ∷ u)) (pos 0)) s
 first_sum zero f b s = refl
-first_sum (suc n) f b s = ap (λ z. z +ℤ cond (in_set s n) (sum_passes (suc n) f (b ∷ set s n false)) (pos 0)) (first_sum n f b s)
-    ∙ ap (λ z. sum_passes n (λ u. f (b ∷ u) +ℤ cond b (f (false ∷ u)) (pos 0)) s +ℤ cond (in_set s n) z (pos 0)) (first_sum n f b (set s n false))
+first_sum (suc n) f b s =
+    ap (λ z. z +ℤ cond (in_set s n) (sum_passes (suc n) f (b ∷ set s n false)) (pos 0)) (first_sum n f b s)
+    ∙ ap (λ z. sum_passes n (λ u. f (b ∷ u) +ℤ cond b (f (false ∷ u)) (pos 0)) s +ℤ cond (in_set s n) z (pos 0))
+    (first_sum n f b (set s n false))
 
-first_difference : (n : ℕ) (f : List Bool → ℤ) (b : Bool) (s : List Bool) → difference_passes (suc n) f (b ∷ s) ≡ difference_passes n (λ u. f (b ∷ u) -ℤ cond b (f (false ∷ u)) (pos 0)) s
+first_difference : (n : ℕ) (f : List Bool → ℤ) (b : Bool) (s : List Bool)
+    → difference_passes (suc n) f (b ∷ s) ≡ difference_passes n (λ u. f (b ∷ u) -ℤ cond b (f (false ∷ u)) (pos 0)) s
 first_difference zero f b s = refl
-first_difference (suc n) f b s = ap (λ z. z -ℤ cond (in_set s n) (difference_passes (suc n) f (b ∷ set s n false)) (pos 0)) (first_difference n f b s)
-    ∙ ap (λ z. difference_passes n (λ u. f (b ∷ u) -ℤ cond b (f (false ∷ u)) (pos 0)) s -ℤ cond (in_set s n) z (pos 0)) (first_difference n f b (set s n false))
+first_difference (suc n) f b s =
+    ap (λ z. z -ℤ cond (in_set s n) (difference_passes (suc n) f (b ∷ set s n false)) (pos 0))
+    (first_difference n f b s)
+    ∙ ap (λ z. difference_passes n (λ u. f (b ∷ u) -ℤ cond b (f (false ∷ u)) (pos 0)) s -ℤ cond (in_set s n) z (pos 0))
+    (first_difference n f b (set s n false))
 
 -- after the passes for all lives of a set there is the sum over its subsets
 pub sum_passes-all : (s : List Bool) (f : List Bool → ℤ) → sum_passes (length s) f s ≡ int_sum_over (subsets s) f
@@ -61,12 +68,15 @@ alternating-sub : (n : ℕ) (y z : ℤ) → alternating n (y -ℤ z) ≡ alterna
 alternating-sub zero y z = refl
 alternating-sub (suc n) y z = omega (arith, ints, alternating-sub n y z)
 
-coefficient-sub : (f g : List Bool → ℤ) (s : List Bool) → coefficient (λ u. f u -ℤ g u) s ≡ coefficient f s -ℤ coefficient g s
+coefficient-sub : (f g : List Bool → ℤ) (s : List Bool)
+    → coefficient (λ u. f u -ℤ g u) s ≡ coefficient f s -ℤ coefficient g s
 unfolding coefficient
 coefficient-sub f g s = int_sum_over-ext (subsets s) _ _ (λ u. alternating-sub (size_of s - size_of u) (f u) (g u))
-    ∙ int_sum_over-sub (subsets s) (λ u. alternating (size_of s - size_of u) (f u)) (λ u. alternating (size_of s - size_of u) (g u))
+    ∙ int_sum_over-sub (subsets s) (λ u. alternating (size_of s - size_of u) (f u))
+    (λ u. alternating (size_of s - size_of u) (g u))
 
-coefficient-same : (f g : List Bool → ℤ) (s : List Bool) → ((u : List Bool) → f u ≡ g u) → coefficient f s ≡ coefficient g s
+coefficient-same : (f g : List Bool → ℤ) (s : List Bool) → ((u : List Bool) → f u ≡ g u)
+    → coefficient f s ≡ coefficient g s
 coefficient-same f g s h = ap (λ e. coefficient e s) (fun_ext h)
 
 -- and after those that take away, the coefficient
@@ -82,7 +92,8 @@ difference_passes-all (true ∷ s) f = first_difference (length s) f true s
     ∙ sym (coefficient-with f s)
 
 -- a coefficient depends on nothing but the sets of as many numbers
-pub coefficient-cong : (f g : List Bool → ℤ) (s : List Bool) → ((u : List Bool) → length u ≡ length s → f u ≡ g u) → coefficient f s ≡ coefficient g s
+pub coefficient-cong : (f g : List Bool → ℤ) (s : List Bool) → ((u : List Bool) → length u ≡ length s → f u ≡ g u)
+    → coefficient f s ≡ coefficient g s
 coefficient-cong f g [] h = omega (arith, ints, coefficient-empty f, coefficient-empty g, h [] refl)
 coefficient-cong f g (false ∷ s) h = omega (
   arith,

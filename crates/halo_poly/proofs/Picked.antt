@@ -30,7 +30,8 @@ alternating-none zero = refl
 alternating-none (suc n) = omega (arith, ints, alternating-none n)
 
 -- one sign more, unless there is nothing to turn
-turned : (j r : ℕ) → alternating (j - r) (pos (choose j (suc r))) ≡ neg_ℤ (alternating (j - suc r) (pos (choose j (suc r))))
+turned : (j r : ℕ)
+    → alternating (j - r) (pos (choose j (suc r))) ≡ neg_ℤ (alternating (j - suc r) (pos (choose j (suc r))))
 turned j r = ⊎_elim
     (λ (h : r < j). let e : j - r ≡ suc (j - suc r) = omega arith in ap (λ n. alternating n (pos (choose j (suc r)))) e)
     (λ (h : j ≤ r).
@@ -53,11 +54,13 @@ signed-zero j =
     rw (whole, less, choose-zero j) refl
 
 -- sums over the first numbers, from the front and from the back
-shifted : (c first : ℕ) (f : ℕ → ℤ) → int_sum_over (numbers_from (suc first) c) f ≡ int_sum_over (numbers_from first c) (λ i. f (suc i))
+shifted : (c first : ℕ) (f : ℕ → ℤ)
+    → int_sum_over (numbers_from (suc first) c) f ≡ int_sum_over (numbers_from first c) (λ i. f (suc i))
 shifted zero first f = refl
 shifted (suc c) first f = ap (λ z. f (suc first) +ℤ z) (shifted c (suc first) f)
 
-front : (c : ℕ) (f : ℕ → ℤ) → int_sum_over (numbers_from 0 (suc c)) f ≡ f 0 +ℤ int_sum_over (numbers_from 0 c) (λ i. f (suc i))
+front : (c : ℕ) (f : ℕ → ℤ)
+    → int_sum_over (numbers_from 0 (suc c)) f ≡ f 0 +ℤ int_sum_over (numbers_from 0 c) (λ i. f (suc i))
 front c f = ap (λ z. f 0 +ℤ z) (shifted c 0 f)
 
 back : (c : ℕ) (f : ℕ → ℤ) → int_sum_over (numbers_from 0 (suc c)) f ≡ int_sum_over (numbers_from 0 c) f +ℤ f c
@@ -65,7 +68,9 @@ back c f =
     let next : suc c ≡ c + 1 = omega arith in
     let place : 0 + c ≡ c = omega arith in
     ap (λ m. int_sum_over (numbers_from 0 m) f) next ∙ ap (λ xs. int_sum_over xs f) (numbers_from-add c 1 0)
-    ∙ (int_sum_over-append (numbers_from 0 c) ((0 + c) ∷ []) f ∙ ap (λ z. int_sum_over (numbers_from 0 c) f +ℤ (z +ℤ pos 0)) (ap f place) ∙ omega (arith, ints))
+    ∙ (int_sum_over-append (numbers_from 0 c) ((0 + c) ∷ []) f
+    ∙ ap (λ z. int_sum_over (numbers_from 0 c) f +ℤ (z +ℤ pos 0)) (ap f place)
+    ∙ omega (arith, ints))
 
 none_times : (z : ℤ) → pos 0 *ℤ z ≡ pos 0
 none_times z = omega (arith, ints)
@@ -85,7 +90,8 @@ no_product : (r k : ℕ) (c : ℕ) → k < c → products r k c ≡ pos 0
 no_product r k c h = ap (λ n. signed c r *ℤ pos n) (choose-past k c h) ∙ times_none (signed c r)
 
 -- a product at one thing more
-split_more : (r k i : ℕ) → products (suc r) (suc k) (suc i) ≡ (products r k i -ℤ products (suc r) k i) +ℤ products (suc r) k (suc i)
+split_more : (r k i : ℕ)
+    → products (suc r) (suc k) (suc i) ≡ (products r k i -ℤ products (suc r) k i) +ℤ products (suc r) k (suc i)
 split_more r k i =
     ap (λ z. signed (suc i) (suc r) *ℤ z) (pos_add (choose k i) (choose k (suc i)))
     ∙ mul_add (signed (suc i) (suc r)) (pos (choose k i)) (pos (choose k (suc i)))
@@ -115,7 +121,8 @@ picked-more c r k h = omega (
   ints,
   front c (products (suc r) (suc k)),
   first_none r (suc k),
-  int_sum_over-ext (numbers_from 0 c) (λ i. products (suc r) (suc k) (suc i)) (λ i. (products r k i -ℤ products (suc r) k i) +ℤ products (suc r) k (suc i)) (split_more r k),
+  int_sum_over-ext (numbers_from 0 c) (λ i. products (suc r) (suc k) (suc i))
+      (λ i. (products r k i -ℤ products (suc r) k i) +ℤ products (suc r) k (suc i)) (split_more r k),
   int_sum_over-add (numbers_from 0 c) (λ i. products r k i -ℤ products (suc r) k i) (λ i. products (suc r) k (suc i)),
   int_sum_over-sub (numbers_from 0 c) (products r k) (products (suc r) k),
   front c (products (suc r) k),
@@ -137,7 +144,8 @@ picked-zero c k h = omega (
   ints,
   front c (products 0 (suc k)),
   first_product (suc k),
-  int_sum_over-ext (numbers_from 0 c) (λ i. products 0 (suc k) (suc i)) (λ i. neg_ℤ (products 0 k i) +ℤ products 0 k (suc i)) (split_zero k),
+  int_sum_over-ext (numbers_from 0 c) (λ i. products 0 (suc k) (suc i))
+      (λ i. neg_ℤ (products 0 k i) +ℤ products 0 k (suc i)) (split_zero k),
   int_sum_over-add (numbers_from 0 c) (λ i. neg_ℤ (products 0 k i)) (λ i. products 0 k (suc i)),
   int_sum_over-neg (numbers_from 0 c) (products 0 k),
   front c (products 0 k),
@@ -155,17 +163,28 @@ picked-is zero r k h = absurd (omega arith)
 picked-is (suc c) r zero h = front c (products r 0) ∙ rest ∙ first r
   where
     rest : products r 0 0 +ℤ int_sum_over (numbers_from 0 c) (λ i. products r 0 (suc i)) ≡ products r 0 0
-    rest = omega (arith, ints, int_sum_over-ext (numbers_from 0 c) (λ i. products r 0 (suc i)) (λ i. pos 0) (λ i. times_none (signed (suc i) r)), int_sum_over-none (numbers_from 0 c))
+    rest =
+        omega (
+          arith,
+          ints,
+          int_sum_over-ext (numbers_from 0 c) (λ i. products r 0 (suc i)) (λ i. pos 0)
+              (λ i. times_none (signed (suc i) r)),
+          int_sum_over-none (numbers_from 0 c),
+        )
 
     first : (r : ℕ) → products r 0 0 ≡ indicator (nat_eq 0 r)
     first zero = refl
     first (suc r) = first_none r 0 ∙ ap indicator (sym (zero_other r))
 picked-is (suc c) zero (suc k) h = picked-zero c k (omega arith) ∙ ap indicator (sym (some_other k))
-picked-is (suc c) (suc r) (suc k) h = picked-more c r k (omega arith) ∙ picked-is c r k (omega arith) ∙ ap indicator (sym (next_same k r))
+picked-is (suc c) (suc r) (suc k) h =
+    picked-more c r k (omega arith) ∙ picked-is c r k (omega arith) ∙ ap indicator (sym (next_same k r))
 
 -- a product of a signed coefficient and a symmetric sum of statuses
-term_is : (r : ℕ) (bs : List Bool) (j : ℕ) → alternating (j - r) (pos (choose j r) *ℤ symmetric_sum j (map indicator bs)) ≡ products r (count_of bs) j
-term_is r bs j = ap (λ z. alternating (j - r) (pos (choose j r) *ℤ z)) (symmetric-counts j bs) ∙ alternating-times (j - r) (pos (choose j r)) (pos (choose (count_of bs) j))
+term_is : (r : ℕ) (bs : List Bool) (j : ℕ)
+    → alternating (j - r) (pos (choose j r) *ℤ symmetric_sum j (map indicator bs)) ≡ products r (count_of bs) j
+term_is r bs j =
+    ap (λ z. alternating (j - r) (pos (choose j r) *ℤ z)) (symmetric-counts j bs)
+    ∙ alternating-times (j - r) (pos (choose j r)) (pos (choose (count_of bs) j))
 
 count_of-le : (bs : List Bool) → count_of bs ≤ length bs
 count_of-le [] = omega arith
@@ -181,7 +200,15 @@ low_none : (r k c : ℕ) → c ≤ r → int_sum_over (numbers_from 0 c) (produc
 low_none r k zero h = refl
 low_none r k (suc c) h =
     let none : choose c r ≡ 0 = choose-past c r (omega arith) in
-    back c (products r k) ∙ omega (arith, ints, low_none r k c (omega arith), ap (λ n. alternating (c - r) (pos n) *ℤ pos (choose k c)) none, ap (λ z. z *ℤ pos (choose k c)) (alternating-none (c - r)), none_times (pos (choose k c)))
+    back c (products r k)
+    ∙ omega (
+      arith,
+      ints,
+      low_none r k c (omega arith),
+      ap (λ n. alternating (c - r) (pos n) *ℤ pos (choose k c)) none,
+      ap (λ z. z *ℤ pos (choose k c)) (alternating-none (c - r)),
+      none_times (pos (choose k c)),
+    )
 
 pub exactly-is-sum : (r : ℕ) (bs : List Bool) → indicator (nat_eq (count_of bs) r) ≡ exactly_sum r (map indicator bs)
 exactly-is-sum r bs = ⊎_elim within past (cases_lt r (suc (length bs)))
@@ -189,8 +216,14 @@ exactly-is-sum r bs = ⊎_elim within past (cases_lt r (suc (length bs)))
     k : ℕ
     k = count_of bs
 
-    window : (n : ℕ) → length (map indicator bs) ≡ n → exactly_sum r (map indicator bs) ≡ int_sum_over (numbers_from r (suc n - r)) (products r k)
-    window n e = ap (λ m. int_sum_over (numbers_from r (suc m - r)) (λ j. alternating (j - r) (pos (choose j r) *ℤ symmetric_sum j (map indicator bs)))) e
+    window : (n : ℕ) → length (map indicator bs) ≡ n
+        → exactly_sum r (map indicator bs) ≡ int_sum_over (numbers_from r (suc n - r)) (products r k)
+    window n e =
+        ap
+        (λ m.
+        int_sum_over (numbers_from r (suc m - r))
+        (λ j. alternating (j - r) (pos (choose j r) *ℤ symmetric_sum j (map indicator bs))))
+        e
         ∙ int_sum_over-ext (numbers_from r (suc n - r)) _ (products r k) (term_is r bs)
 
     within : r < suc (length bs) → indicator (nat_eq k r) ≡ exactly_sum r (map indicator bs)
@@ -198,8 +231,11 @@ exactly-is-sum r bs = ⊎_elim within past (cases_lt r (suc (length bs)))
         let n : ℕ = length bs in
         let split : r + (suc n - r) ≡ suc n = omega arith in
         let start : 0 + r ≡ r = omega arith in
-        let all : int_sum_over (numbers_from 0 (r + (suc n - r))) (products r k) ≡ int_sum_over (numbers_from 0 r) (products r k) +ℤ int_sum_over (numbers_from (0 + r) (suc n - r)) (products r k) =
-        ap (λ xs. int_sum_over xs (products r k)) (numbers_from-add r (suc n - r) 0) ∙ int_sum_over-append (numbers_from 0 r) (numbers_from (0 + r) (suc n - r)) (products r k) in
+        let all : int_sum_over (numbers_from 0 (r + (suc n - r))) (products r k)
+        ≡ int_sum_over (numbers_from 0 r) (products r k)
+        +ℤ int_sum_over (numbers_from (0 + r) (suc n - r)) (products r k) =
+        ap (λ xs. int_sum_over xs (products r k)) (numbers_from-add r (suc n - r) 0)
+        ∙ int_sum_over-append (numbers_from 0 r) (numbers_from (0 + r) (suc n - r)) (products r k) in
         sym (picked-is (suc n) r k (omega (arith, count_of-le bs)))
         ∙ ap (λ m. picked m r k) (sym split)
         ∙ all
@@ -212,7 +248,9 @@ exactly-is-sum r bs = ⊎_elim within past (cases_lt r (suc (length bs)))
     past h =
         let none : suc (length bs) - r ≡ 0 = omega arith in
         let other : nat_eq k r ≡ false = differ k r (omega (arith, count_of-le bs)) in
-        ap indicator other ∙ ap (λ c. int_sum_over (numbers_from r c) (products r k)) (sym none) ∙ sym (window (length bs) (length-map bs))
+        ap indicator other
+        ∙ ap (λ c. int_sum_over (numbers_from r c) (products r k)) (sym none)
+        ∙ sym (window (length bs) (length-map bs))
       where
         differ : (k r : ℕ) → k < r → nat_eq k r ≡ false
         differ k r h = grind (arith, nat_tests)
@@ -222,7 +260,9 @@ abbrev counted : ℕ → ℕ → ℕ → ℤ
 counted q k i = signed i q *ℤ pos (choose k (suc i))
 
 split_counted : (q k i : ℕ) → counted q (suc k) i ≡ products q k i +ℤ counted q k i
-split_counted q k i = ap (λ z. signed i q *ℤ z) (pos_add (choose k i) (choose k (suc i))) ∙ mul_add (signed i q) (pos (choose k i)) (pos (choose k (suc i)))
+split_counted q k i =
+    ap (λ z. signed i q *ℤ z) (pos_add (choose k i) (choose k (suc i)))
+    ∙ mul_add (signed i q) (pos (choose k i)) (pos (choose k (suc i)))
 
 equal_told : (k q : ℕ) → k ≡ q → nat_eq k q ≡ true
 equal_told k q e = grind (arith, nat_tests)
@@ -239,15 +279,21 @@ no_more_told q k h = grind (arith, nat_tests)
 
 stepped : (q k : ℕ) → indicator (nat_eq k q) +ℤ indicator (nat_le (suc q) k) ≡ indicator (nat_le (suc q) (suc k))
 stepped q k = ⊎_elim
-    (λ (h : k < q). rw (other_told k q (inl h), no_more_told q k (omega arith), no_more_told q (suc k) h) (omega (arith, ints)))
+    (λ (h : k < q).
+    rw (other_told k q (inl h), no_more_told q k (omega arith), no_more_told q (suc k) h) (omega (arith, ints)))
     (λ (h : q ≤ k). ⊎_elim
-    (λ (g : q < k). rw (other_told k q (inr g), more_told q k g, more_told q (suc k) (omega arith)) (omega (arith, ints)))
-    (λ (g : k ≤ q). rw (equal_told k q (omega arith), no_more_told q k g, more_told q (suc k) (omega arith)) (omega (arith, ints)))
+    (λ (g : q < k).
+    rw (other_told k q (inr g), more_told q k g, more_told q (suc k) (omega arith)) (omega (arith, ints)))
+    (λ (g : k ≤ q).
+    rw (equal_told k q (omega arith), no_more_told q k g, more_told q (suc k) (omega arith)) (omega (arith, ints)))
     (cases_lt q k))
     (cases_lt k q)
 
 counted-is : (c q k : ℕ) → k ≤ c → int_sum_over (numbers_from 0 c) (counted q k) ≡ indicator (nat_le (suc q) k)
-counted-is c q zero h = int_sum_over-ext (numbers_from 0 c) (counted q 0) (λ i. pos 0) (λ i. times_none (signed i q)) ∙ int_sum_over-none (numbers_from 0 c) ∙ ap indicator (sym (no_more_told q 0 (omega arith)))
+counted-is c q zero h =
+    int_sum_over-ext (numbers_from 0 c) (counted q 0) (λ i. pos 0) (λ i. times_none (signed i q))
+    ∙ int_sum_over-none (numbers_from 0 c)
+    ∙ ap indicator (sym (no_more_told q 0 (omega arith)))
 counted-is c q (suc k) h =
     int_sum_over-ext (numbers_from 0 c) (counted q (suc k)) (λ i. products q k i +ℤ counted q k i) (split_counted q k)
     ∙ int_sum_over-add (numbers_from 0 c) (products q k) (counted q k)
@@ -259,9 +305,19 @@ low_counted : (q k c : ℕ) → c ≤ q → int_sum_over (numbers_from 0 c) (cou
 low_counted q k zero h = refl
 low_counted q k (suc c) h =
     let none : choose c q ≡ 0 = choose-past c q (omega arith) in
-    back c (counted q k) ∙ omega (arith, ints, low_counted q k c (omega arith), ap (λ n. alternating (c - q) (pos n) *ℤ pos (choose k (suc c))) none, ap (λ z. z *ℤ pos (choose k (suc c))) (alternating-none (c - q)), none_times (pos (choose k (suc c))))
+    back c (counted q k)
+    ∙ omega (
+      arith,
+      ints,
+      low_counted q k c (omega arith),
+      ap (λ n. alternating (c - q) (pos n) *ℤ pos (choose k (suc c))) none,
+      ap (λ z. z *ℤ pos (choose k (suc c))) (alternating-none (c - q)),
+      none_times (pos (choose k (suc c))),
+    )
 
-counted_term : (q : ℕ) (bs : List Bool) (i : ℕ) → alternating (suc i - suc q) (pos (choose (suc i - 1) (suc q - 1)) *ℤ symmetric_sum (suc i) (map indicator bs)) ≡ counted q (count_of bs) i
+counted_term : (q : ℕ) (bs : List Bool) (i : ℕ)
+    → alternating (suc i - suc q) (pos (choose (suc i - 1) (suc q - 1)) *ℤ symmetric_sum (suc i) (map indicator bs))
+    ≡ counted q (count_of bs) i
 counted_term q bs i =
     let a : suc i - suc q ≡ i - q = omega arith in
     let b : suc i - 1 ≡ i = omega arith in
@@ -272,16 +328,24 @@ counted_term q bs i =
     ∙ ap (λ z. alternating (i - q) (pos (choose i q) *ℤ z)) (symmetric-counts (suc i) bs)
     ∙ alternating-times (i - q) (pos (choose i q)) (pos (choose (count_of bs) (suc i)))
 
-pub at-least-is-sum : (r : ℕ) (bs : List Bool) → 1 ≤ r → indicator (nat_le r (count_of bs)) ≡ at_least_sum r (map indicator bs)
+pub at-least-is-sum : (r : ℕ) (bs : List Bool) → 1 ≤ r
+    → indicator (nat_le r (count_of bs)) ≡ at_least_sum r (map indicator bs)
 at-least-is-sum zero bs h = absurd (omega arith)
 at-least-is-sum (suc q) bs h = ⊎_elim past within (cases_lt (length bs) q)
   where
     k : ℕ
     k = count_of bs
 
-    window : (n : ℕ) → length (map indicator bs) ≡ n → at_least_sum (suc q) (map indicator bs) ≡ int_sum_over (numbers_from q (suc n - suc q)) (counted q k)
-    window n e = ap (λ m. int_sum_over (numbers_from (suc q) (suc m - suc q)) (λ j. alternating (j - suc q) (pos (choose (j - 1) (suc q - 1)) *ℤ symmetric_sum j (map indicator bs)))) e
-        ∙ shifted (suc n - suc q) q (λ j. alternating (j - suc q) (pos (choose (j - 1) (suc q - 1)) *ℤ symmetric_sum j (map indicator bs)))
+    window : (n : ℕ) → length (map indicator bs) ≡ n
+        → at_least_sum (suc q) (map indicator bs) ≡ int_sum_over (numbers_from q (suc n - suc q)) (counted q k)
+    window n e =
+        ap
+        (λ m.
+        int_sum_over (numbers_from (suc q) (suc m - suc q))
+        (λ j. alternating (j - suc q) (pos (choose (j - 1) (suc q - 1)) *ℤ symmetric_sum j (map indicator bs))))
+        e
+        ∙ shifted (suc n - suc q) q
+        (λ j. alternating (j - suc q) (pos (choose (j - 1) (suc q - 1)) *ℤ symmetric_sum j (map indicator bs)))
         ∙ int_sum_over-ext (numbers_from q (suc n - suc q)) _ (counted q k) (counted_term q bs)
 
     within : q ≤ length bs → indicator (nat_le (suc q) k) ≡ at_least_sum (suc q) (map indicator bs)
@@ -289,12 +353,16 @@ at-least-is-sum (suc q) bs h = ⊎_elim past within (cases_lt (length bs) q)
         let n : ℕ = length bs in
         let split : q + (suc n - suc q) ≡ n = omega arith in
         let start : 0 + q ≡ q = omega arith in
-        let all : int_sum_over (numbers_from 0 (q + (suc n - suc q))) (counted q k) ≡ int_sum_over (numbers_from 0 q) (counted q k) +ℤ int_sum_over (numbers_from (0 + q) (suc n - suc q)) (counted q k) =
-        ap (λ xs. int_sum_over xs (counted q k)) (numbers_from-add q (suc n - suc q) 0) ∙ int_sum_over-append (numbers_from 0 q) (numbers_from (0 + q) (suc n - suc q)) (counted q k) in
+        let all : int_sum_over (numbers_from 0 (q + (suc n - suc q))) (counted q k)
+        ≡ int_sum_over (numbers_from 0 q) (counted q k)
+        +ℤ int_sum_over (numbers_from (0 + q) (suc n - suc q)) (counted q k) =
+        ap (λ xs. int_sum_over xs (counted q k)) (numbers_from-add q (suc n - suc q) 0)
+        ∙ int_sum_over-append (numbers_from 0 q) (numbers_from (0 + q) (suc n - suc q)) (counted q k) in
         sym (counted-is n q k (count_of-le bs))
         ∙ ap (λ m. int_sum_over (numbers_from 0 m) (counted q k)) (sym split)
         ∙ all
-        ∙ ap (λ z. z +ℤ int_sum_over (numbers_from (0 + q) (suc n - suc q)) (counted q k)) (low_counted q k q (omega arith))
+        ∙ ap (λ z. z +ℤ int_sum_over (numbers_from (0 + q) (suc n - suc q)) (counted q k))
+        (low_counted q k q (omega arith))
         ∙ omega (arith, ints)
         ∙ ap (λ first. int_sum_over (numbers_from first (suc n - suc q)) (counted q k)) start
         ∙ sym (window n (length-map bs))
@@ -302,4 +370,6 @@ at-least-is-sum (suc q) bs h = ⊎_elim past within (cases_lt (length bs) q)
     past : length bs < q → indicator (nat_le (suc q) k) ≡ at_least_sum (suc q) (map indicator bs)
     past g =
         let none : suc (length bs) - suc q ≡ 0 = omega arith in
-        ap indicator (no_more_told q k (omega (arith, count_of-le bs))) ∙ ap (λ c. int_sum_over (numbers_from q c) (counted q k)) (sym none) ∙ sym (window (length bs) (length-map bs))
+        ap indicator (no_more_told q k (omega (arith, count_of-le bs)))
+        ∙ ap (λ c. int_sum_over (numbers_from q c) (counted q k)) (sym none)
+        ∙ sym (window (length bs) (length-map bs))

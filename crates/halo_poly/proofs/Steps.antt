@@ -18,12 +18,14 @@ pub none_passed : (passed : ℕ → ℤ) (old : List ℤ) → HasPassed passed o
 none_passed passed old = record { same = refl; done = λ k h. absurd (omega arith); rest = λ k h. refl }
 
 -- one place more
-pub one_passed : (passed : ℕ → ℤ) (old now : List ℤ) (mask : ℕ) (z : ℤ) → HasPassed passed old now mask → mask < length old → z ≡ passed mask → HasPassed passed old (set now mask z) (mask + 1)
+pub one_passed : (passed : ℕ → ℤ) (old now : List ℤ) (mask : ℕ) (z : ℤ) → HasPassed passed old now mask
+    → mask < length old → z ≡ passed mask → HasPassed passed old (set now mask z) (mask + 1)
 one_passed passed old now mask z h within e = record {
   same = simp length-set h.same;
   done = λ k l. ⊎_elim
       (λ (q : k < mask). let ne : k ≢ mask = omega arith in get_or-set_other now mask k z (pos 0) ne ∙ h.done k q)
-      (λ (q : mask ≤ k). let same : k ≡ mask = omega arith in rw same (get_or-set_same now mask z (pos 0) (omega (arith, h.same)) ∙ e))
+      (λ (q : mask ≤ k). let same : k ≡ mask =
+      omega arith in rw same (get_or-set_same now mask z (pos 0) (omega (arith, h.same)) ∙ e))
       (cases_lt k mask);
   rest = λ k l. let ne : k ≢ mask = omega arith in get_or-set_other now mask k z (pos 0) ne ∙ h.rest k (omega arith);
 }
@@ -35,11 +37,13 @@ pub without-passed : (passed : ℕ → ℤ) (old now : List ℤ) (mask life : �
 unfolding without
 without-passed passed old now mask life h stays = go (has_bit mask life) refl
   where
-    go : (b : Bool) → has_bit mask life ≡ b → cond b (coefficient_at now (mask - 2 ^ life)) (pos 0) ≡ cond b (coefficient_at old (mask - 2 ^ life)) (pos 0)
+    go : (b : Bool) → has_bit mask life ≡ b
+        → cond b (coefficient_at now (mask - 2 ^ life)) (pos 0) ≡ cond b (coefficient_at old (mask - 2 ^ life)) (pos 0)
     go false e = refl
     go true e =
         let low = has_bit-le mask life e in
-        h.done (mask - 2 ^ life) (omega (arith, low, pow_pos life)) ∙ stays (mask - 2 ^ life) (has_bit-cleared mask life e)
+        h.done (mask - 2 ^ life) (omega (arith, low, pow_pos life))
+        ∙ stays (mask - 2 ^ life) (has_bit-cleared mask life e)
 
 -- which holds of a pass that adds or takes away what there is without the life
 pub without-none : (old : List ℤ) (life k : ℕ) → has_bit k life ≡ false → without old life k ≡ pos 0
@@ -47,7 +51,8 @@ unfolding without
 without-none old life k e = rw e refl
 
 -- after all places, where a pass makes 0 of those past the end
-pub all_passed : (passed : ℕ → ℤ) (old now : List ℤ) (mask : ℕ) → HasPassed passed old now mask → length old ≤ mask → ((k : ℕ) → length old ≤ k → passed k ≡ pos 0)
+pub all_passed : (passed : ℕ → ℤ) (old now : List ℤ) (mask : ℕ) → HasPassed passed old now mask → length old ≤ mask
+    → ((k : ℕ) → length old ≤ k → passed k ≡ pos 0)
     → (k : ℕ) → coefficient_at now k ≡ passed k
 all_passed passed old now mask h all none k = ⊎_elim
     (λ (q : k < mask). h.done k q)

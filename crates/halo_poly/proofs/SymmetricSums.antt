@@ -1,5 +1,5 @@
 -- Symmetric sums of statuses are binomial coefficients, whose alternating sums pick out one number.
-use Rattle.std.proofs.Common.{◌≡◌, ℕ, zero, suc, ◌+◌, ◌-◌, ◌^◌, ◌<◌, ◌≤◌, arith, refl, ap, ◌∙◌, List, [], ◌∷◌, map, Bool, true, false, ℤ, pos, ◌+ℤ◌, ◌*ℤ◌}
+use Rattle.std.proofs.Common.{◌≡◌, ℕ, zero, suc, ◌+◌, ◌-◌, ◌^◌, ◌≤◌, arith, refl, ap, ◌∙◌, List, [], ◌∷◌, map, Bool, true, false, ℤ, pos, ◌+ℤ◌, ◌*ℤ◌}
 use Rattle.std.proofs.Math.Nat.{pow-suc}
 use Rattle.std.proofs.lemmas.Int.{ints}
 use Rattle.std.proofs.lemmas.Nat.{pow_pos}
@@ -10,9 +10,11 @@ use Rattle.halo_sums.specs.Choices.{choose}
 use Rattle.halo_poly.specs.Symmetric.{count_of, parts_of, product_of, symmetric_sum}
 
 -- a number more on the list is in some parts, and not in the others
-symmetric-more : (j : ℕ) (z : ℤ) (zs : List ℤ) → symmetric_sum (suc j) (z ∷ zs) ≡ z *ℤ symmetric_sum j zs +ℤ symmetric_sum (suc j) zs
+symmetric-more : (j : ℕ) (z : ℤ) (zs : List ℤ)
+    → symmetric_sum (suc j) (z ∷ zs) ≡ z *ℤ symmetric_sum j zs +ℤ symmetric_sum (suc j) zs
 symmetric-more j z zs = int_sum_over-append (map (λ part. z ∷ part) (parts_of j zs)) (parts_of (suc j) zs) product_of
-    ∙ ap (λ y. y +ℤ symmetric_sum (suc j) zs) (int_sum_over-map (λ part. z ∷ part) (parts_of j zs) product_of ∙ int_sum_over-scale (parts_of j zs) z product_of)
+    ∙ ap (λ y. y +ℤ symmetric_sum (suc j) zs)
+    (int_sum_over-map (λ part. z ∷ part) (parts_of j zs) product_of ∙ int_sum_over-scale (parts_of j zs) z product_of)
 
 one_times : (z : ℤ) → pos 1 *ℤ z ≡ z
 one_times z = omega (arith, ints)

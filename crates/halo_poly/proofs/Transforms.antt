@@ -26,30 +26,50 @@ pub record Holds (n : ℕ) (f : List Bool → ℤ) (values : List ℤ) : Type 0 
   pub each : (s : List Bool) → length s ≡ n → coefficient_of values s ≡ f s
 
 -- what there is without a life, by the set
-pub without-set : (values : List ℤ) (life : ℕ) (s : List Bool) → life < length s → without values life (mask_of s) ≡ cond (in_set s life) (coefficient_of values (set s life false)) (pos 0)
+pub without-set : (values : List ℤ) (life : ℕ) (s : List Bool) → life < length s
+    → without values life (mask_of s) ≡ cond (in_set s life) (coefficient_of values (set s life false)) (pos 0)
 unfolding without
 without-set values life s h = rw (has_bit-mask_of s life h) (go (in_set s life) refl)
   where
-    go : (b : Bool) → in_set s life ≡ b → cond b (coefficient_at values (mask_of s - 2 ^ life)) (pos 0) ≡ cond b (coefficient_of values (set s life false)) (pos 0)
+    go : (b : Bool) → in_set s life ≡ b
+        → cond b (coefficient_at values (mask_of s - 2 ^ life)) (pos 0)
+        ≡ cond b (coefficient_of values (set s life false)) (pos 0)
     go false e = refl
     go true e = ap (coefficient_at values) (omega (arith, mask_of-without s life e))
 
-without-held : (n : ℕ) (f : List Bool → ℤ) (values : List ℤ) (life : ℕ) (s : List Bool) → Holds n f values → life < n → length s ≡ n → without values life (mask_of s) ≡ cond (in_set s life) (f (set s life false)) (pos 0)
-without-held n f values life s h within e = without-set values life s (omega arith) ∙ ap (λ z. cond (in_set s life) z (pos 0)) (h.each (set s life false) (simp length-set e))
+without-held : (n : ℕ) (f : List Bool → ℤ) (values : List ℤ) (life : ℕ) (s : List Bool) → Holds n f values → life < n
+    → length s ≡ n → without values life (mask_of s) ≡ cond (in_set s life) (f (set s life false)) (pos 0)
+without-held n f values life s h within e =
+    without-set values life s (omega arith)
+    ∙ ap (λ z. cond (in_set s life) z (pos 0)) (h.each (set s life false) (simp length-set e))
 
 -- one pass more
-pub sum_more : (n : ℕ) (f : List Bool → ℤ) (values next : List ℤ) (life : ℕ) → Holds n f values → life < n → length next ≡ length values
-    → ((mask : ℕ) → mask < length values → coefficient_at next mask ≡ coefficient_at values mask +ℤ without values life mask) → Holds n (sum_pass life f) next
+pub sum_more : (n : ℕ) (f : List Bool → ℤ) (values next : List ℤ) (life : ℕ) → Holds n f values → life < n
+    → length next ≡ length values
+    → ((mask : ℕ) → mask < length values
+    → coefficient_at next mask ≡ coefficient_at values mask +ℤ without values life mask)
+    → Holds n (sum_pass life f) next
 sum_more n f values next life h within same sums = record {
   full = same ∙ h.full;
-  each = λ s e. sums (mask_of s) (rw (h.full, ← e) (mask_of-lt s)) ∙ ap (λ z. z +ℤ without values life (mask_of s)) (h.each s e) ∙ ap (λ z. f s +ℤ z) (without-held n f values life s h within e);
+  each =
+      λ s e.
+      sums (mask_of s) (rw (h.full, ← e) (mask_of-lt s))
+      ∙ ap (λ z. z +ℤ without values life (mask_of s)) (h.each s e)
+      ∙ ap (λ z. f s +ℤ z) (without-held n f values life s h within e);
 }
 
-pub difference_more : (n : ℕ) (f : List Bool → ℤ) (values next : List ℤ) (life : ℕ) → Holds n f values → life < n → length next ≡ length values
-    → ((mask : ℕ) → mask < length values → coefficient_at next mask ≡ coefficient_at values mask -ℤ without values life mask) → Holds n (difference_pass life f) next
+pub difference_more : (n : ℕ) (f : List Bool → ℤ) (values next : List ℤ) (life : ℕ) → Holds n f values → life < n
+    → length next ≡ length values
+    → ((mask : ℕ) → mask < length values
+    → coefficient_at next mask ≡ coefficient_at values mask -ℤ without values life mask)
+    → Holds n (difference_pass life f) next
 difference_more n f values next life h within same differences = record {
   full = same ∙ h.full;
-  each = λ s e. differences (mask_of s) (rw (h.full, ← e) (mask_of-lt s)) ∙ ap (λ z. z -ℤ without values life (mask_of s)) (h.each s e) ∙ ap (λ z. f s -ℤ z) (without-held n f values life s h within e);
+  each =
+      λ s e.
+      differences (mask_of s) (rw (h.full, ← e) (mask_of-lt s))
+      ∙ ap (λ z. z -ℤ without values life (mask_of s)) (h.each s e)
+      ∙ ap (λ z. f s -ℤ z) (without-held n f values life s h within e);
 }
 
 -- the size of a sum and of a difference
@@ -67,18 +87,21 @@ abs-cond false z c h = omega arith
 pub doubled : (k c : ℕ) → 2 ^ suc k * c ≡ 2 ^ k * c + 2 ^ k * c
 doubled k c = ap (λ m. m * c) (pow-suc 2 k) ∙ omega arith
 
-pub sums_bounded : (n k : ℕ) (f : List Bool → ℤ) (c : ℕ) → ((u : List Bool) → length u ≡ n → unsigned_abs (f u) ≤ c) → (s : List Bool) → length s ≡ n → unsigned_abs (sum_passes k f s) ≤ 2 ^ k * c
+pub sums_bounded : (n k : ℕ) (f : List Bool → ℤ) (c : ℕ) → ((u : List Bool) → length u ≡ n → unsigned_abs (f u) ≤ c)
+    → (s : List Bool) → length s ≡ n → unsigned_abs (sum_passes k f s) ≤ 2 ^ k * c
 sums_bounded n zero f c h s l = omega (arith, h s l)
 sums_bounded n (suc k) f c h s l = omega (
   arith,
   doubled k c,
   abs-add (sum_passes k f s) (cond (in_set s k) (sum_passes k f (set s k false)) (pos 0)),
   sums_bounded n k f c h s l,
-  abs-cond (in_set s k) (sum_passes k f (set s k false)) (2 ^ k * c) (sums_bounded n k f c h (set s k false) (simp length-set l)),
+  abs-cond (in_set s k) (sum_passes k f (set s k false)) (2 ^ k * c)
+      (sums_bounded n k f c h (set s k false) (simp length-set l)),
 )
 
 -- without a life a set has it no more, so that its pass changes nothing there
-settled : (k : ℕ) (f : List Bool → ℤ) (s : List Bool) → k < length s → difference_pass k f (set s k false) ≡ f (set s k false)
+settled : (k : ℕ) (f : List Bool → ℤ) (s : List Bool) → k < length s
+    → difference_pass k f (set s k false) ≡ f (set s k false)
 settled k f s h =
     let gone : in_set (set s k false) k ≡ false = get_or-set_same s k false false h in
     rw gone (omega (arith, ints))
@@ -87,13 +110,15 @@ taken_back : (b : Bool) (x y z : ℤ) → z ≡ x -ℤ cond b y (pos 0) → x �
 taken_back b x y z e = omega (arith, ints, e)
 
 -- with j passes that take away still to come, nothing is more than 2^j times as large as what they end with
-pub differences_bounded : (n : ℕ) (f : List Bool → ℤ) (c : ℕ) → ((s : List Bool) → length s ≡ n → unsigned_abs (difference_passes n f s) ≤ c)
+pub differences_bounded : (n : ℕ) (f : List Bool → ℤ) (c : ℕ)
+    → ((s : List Bool) → length s ≡ n → unsigned_abs (difference_passes n f s) ≤ c)
     → (j k : ℕ) → k + j ≡ n → (s : List Bool) → length s ≡ n → unsigned_abs (difference_passes k f s) ≤ 2 ^ j * c
 differences_bounded n f c h zero k e s l = let all : k ≡ n = omega arith in rw all (omega (arith, h s l))
 differences_bounded n f c h (suc j) k e s l =
     let d : List Bool → ℤ = difference_passes k f in
     let u : List Bool = set s k false in
-    let later : (v : List Bool) → length v ≡ n → unsigned_abs (difference_pass k d v) ≤ 2 ^ j * c = differences_bounded n f c h j (suc k) (omega arith) in
+    let later : (v : List Bool) → length v ≡ n → unsigned_abs (difference_pass k d v) ≤ 2 ^ j * c =
+    differences_bounded n f c h j (suc k) (omega arith) in
     let at_u : unsigned_abs (d u) ≤ 2 ^ j * c = rw (settled k d s (omega arith)) at (later u (simp length-set l)) in
     omega (
       arith,
@@ -111,42 +136,58 @@ bounded_fits k z h b =
     fits_signed_from_abs w64 z (omega (arith, mul-le (2 ^ k) (10 ^ 15) (2 ^ 12) (10 ^ 15) p (omega arith)))
 
 -- what a pass makes of a place fits
-pub sum_fits : (n : ℕ) (f : List Bool → ℤ) (values : List ℤ) (life mask : ℕ) → Holds n (sum_passes life f) values → ((u : List Bool) → IsSmall (f u)) → life < n → n ≤ 12 → mask < length values
+pub sum_fits : (n : ℕ) (f : List Bool → ℤ) (values : List ℤ) (life mask : ℕ) → Holds n (sum_passes life f) values
+    → ((u : List Bool) → IsSmall (f u)) → life < n → n ≤ 12 → mask < length values
     → FitsSigned w64 (coefficient_at values mask +ℤ without values life mask)
 sum_fits n f values life mask h small within few m =
     let s : List Bool = bits n mask in
     let e : mask_of s ≡ mask = mask_of-bits n mask (omega (arith, h.full)) in
     let l : length s ≡ n = length-bits n mask in
-    let held : coefficient_of values s +ℤ without values life (mask_of s) ≡ sum_passes (suc life) f s = ap (λ z. z +ℤ without values life (mask_of s)) (h.each s l) ∙ ap (λ z. sum_passes life f s +ℤ z) (without-held n (sum_passes life f) values life s h within l) in
-    let whole : coefficient_at values mask +ℤ without values life mask ≡ sum_passes (suc life) f s = ap (λ m. coefficient_at values m +ℤ without values life m) (sym e) ∙ held in
+    let held : coefficient_of values s +ℤ without values life (mask_of s) ≡ sum_passes (suc life) f s =
+    ap (λ z. z +ℤ without values life (mask_of s)) (h.each s l)
+    ∙ ap (λ z. sum_passes life f s +ℤ z) (without-held n (sum_passes life f) values life s h within l) in
+    let whole : coefficient_at values mask +ℤ without values life mask ≡ sum_passes (suc life) f s =
+    ap (λ m. coefficient_at values m +ℤ without values life m) (sym e) ∙ held in
     rw whole (bounded_fits (suc life) _ (omega arith) (sums_bounded n (suc life) f (10 ^ 15) (λ u e. small u) s l))
 
-pub difference_fits : (n : ℕ) (f : List Bool → ℤ) (values : List ℤ) (life mask : ℕ) → Holds n (difference_passes life f) values → ((s : List Bool) → length s ≡ n → IsSmall (coefficient f s)) → life < n → n ≤ 12 → mask < length values
+pub difference_fits : (n : ℕ) (f : List Bool → ℤ) (values : List ℤ) (life mask : ℕ)
+    → Holds n (difference_passes life f) values → ((s : List Bool) → length s ≡ n → IsSmall (coefficient f s))
+    → life < n → n ≤ 12 → mask < length values
     → FitsSigned w64 (coefficient_at values mask -ℤ without values life mask)
 difference_fits n f values life mask h small within few m =
     let s : List Bool = bits n mask in
     let e : mask_of s ≡ mask = mask_of-bits n mask (omega (arith, h.full)) in
     let l : length s ≡ n = length-bits n mask in
-    let held : coefficient_of values s -ℤ without values life (mask_of s) ≡ difference_passes (suc life) f s = ap (λ z. z -ℤ without values life (mask_of s)) (h.each s l) ∙ ap (λ z. difference_passes life f s -ℤ z) (without-held n (difference_passes life f) values life s h within l) in
-    let whole : coefficient_at values mask -ℤ without values life mask ≡ difference_passes (suc life) f s = ap (λ m. coefficient_at values m -ℤ without values life m) (sym e) ∙ held in
-    let ends : (v : List Bool) → length v ≡ n → IsSmall (difference_passes n f v) = λ v q. rw (sym (ap (λ k. difference_passes k f v) q) ∙ difference_passes-all v f) (small v q) in
-    rw whole (bounded_fits (n - suc life) _ (omega arith) (differences_bounded n f (10 ^ 15) ends (n - suc life) (suc life) (omega arith) s l))
+    let held : coefficient_of values s -ℤ without values life (mask_of s) ≡ difference_passes (suc life) f s =
+    ap (λ z. z -ℤ without values life (mask_of s)) (h.each s l)
+    ∙ ap (λ z. difference_passes life f s -ℤ z)
+    (without-held n (difference_passes life f) values life s h within l) in
+    let whole : coefficient_at values mask -ℤ without values life mask ≡ difference_passes (suc life) f s =
+    ap (λ m. coefficient_at values m -ℤ without values life m) (sym e) ∙ held in
+    let ends : (v : List Bool) → length v ≡ n → IsSmall (difference_passes n f v) =
+    λ v q. rw (sym (ap (λ k. difference_passes k f v) q) ∙ difference_passes-all v f) (small v q) in
+    rw whole (bounded_fits (n - suc life) _ (omega arith)
+    (differences_bounded n f (10 ^ 15) ends (n - suc life) (suc life) (omega arith) s l))
 
 -- a value fits where the coefficients are small
-pub value_fits : (n : ℕ) (f : List Bool → ℤ) → n ≤ 12 → ((s : List Bool) → length s ≡ n → IsSmall (coefficient f s)) → (s : List Bool) → length s ≡ n → FitsSigned w64 (f s)
+pub value_fits : (n : ℕ) (f : List Bool → ℤ) → n ≤ 12 → ((s : List Bool) → length s ≡ n → IsSmall (coefficient f s))
+    → (s : List Bool) → length s ≡ n → FitsSigned w64 (f s)
 value_fits n f few small s l =
-    let sum : sum_passes n (coefficient f) s ≡ f s = sym (ap (λ k. sum_passes k (coefficient f) s) l) ∙ sum_passes-all s (coefficient f) ∙ coefficients-add f s in
+    let sum : sum_passes n (coefficient f) s ≡ f s =
+    sym (ap (λ k. sum_passes k (coefficient f) s) l) ∙ sum_passes-all s (coefficient f) ∙ coefficients-add f s in
     rw (← sum) (bounded_fits n _ few (sums_bounded n n (coefficient f) (10 ^ 15) small s l))
 
 -- what is small for each set is small for each mask
-pub small_by_sets : (n : ℕ) (p : List ℤ) → length p ≡ 2 ^ n → ((s : List Bool) → length s ≡ n → IsSmall (coefficient_of p s)) → (mask : ℕ) → IsSmall (coefficient_at p mask)
+pub small_by_sets : (n : ℕ) (p : List ℤ) → length p ≡ 2 ^ n
+    → ((s : List Bool) → length s ≡ n → IsSmall (coefficient_of p s)) → (mask : ℕ) → IsSmall (coefficient_at p mask)
 small_by_sets n p full small mask = ⊎_elim
     (λ (h : mask < 2 ^ n). rw (mask_of-bits n mask h) at (small (bits n mask) (length-bits n mask)))
     (λ (h : 2 ^ n ≤ mask). rw (get_or_past p mask (pos 0) (omega (arith, full))) (omega arith))
     (cases_lt mask (2 ^ n))
 
 -- and so there is a polynomial
-pub is_poly : (m n : ℕ) (p : List ℤ) → CountsSets m → m ≡ 2 ^ n → length p ≡ m → ((s : List Bool) → length s ≡ n → IsSmall (coefficient_of p s)) → IsPoly m p
+pub is_poly : (m n : ℕ) (p : List ℤ) → CountsSets m → m ≡ 2 ^ n → length p ≡ m
+    → ((s : List Bool) → length s ≡ n → IsSmall (coefficient_of p s)) → IsPoly m p
 is_poly m n p sets e full small = record { sets = sets; full = full; small = small_by_sets n p (full ∙ e) small }
 
 -- a list that was written back whole
@@ -154,7 +195,8 @@ pub written : (k : ℕ) (xs ys : List ℤ) → length xs ≡ k → take k (xs ++
 written k xs ys e = rw (← e) (take-append_seam xs (drop (length xs) ys))
 
 -- the coefficient of a test is small
-pub test_small : (holds : List Bool → Bool) (s : List Bool) → length s ≤ 12 → IsSmall (coefficient (λ u. indicator (holds u)) s)
+pub test_small : (holds : List Bool → Bool) (s : List Bool) → length s ≤ 12
+    → IsSmall (coefficient (λ u. indicator (holds u)) s)
 test_small holds s few =
     let h = coefficients-bounded holds s in
     let size : size_of s - 1 ≤ 12 = omega (arith, size_of-le s) in
@@ -167,9 +209,13 @@ test_small holds s few =
     size_of-le (false ∷ s) = omega (arith, size_of-le s)
 
 -- a sum over subsets depends on nothing but the sets of as many lives
-pub sum-cong : (s : List Bool) (f g : List Bool → ℤ) → ((u : List Bool) → length u ≡ length s → f u ≡ g u) → int_sum_over (subsets s) f ≡ int_sum_over (subsets s) g
+pub sum-cong : (s : List Bool) (f g : List Bool → ℤ) → ((u : List Bool) → length u ≡ length s → f u ≡ g u)
+    → int_sum_over (subsets s) f ≡ int_sum_over (subsets s) g
 sum-cong [] f g h = ap (λ z. z +ℤ pos 0) (h [] refl)
-sum-cong (false ∷ s) f g h = int_sum_over-subsets_without s f ∙ sum-cong s (λ u. f (false ∷ u)) (λ u. g (false ∷ u)) (λ u e. h (false ∷ u) (ap suc e)) ∙ sym (int_sum_over-subsets_without s g)
+sum-cong (false ∷ s) f g h =
+    int_sum_over-subsets_without s f
+    ∙ sum-cong s (λ u. f (false ∷ u)) (λ u. g (false ∷ u)) (λ u e. h (false ∷ u) (ap suc e))
+    ∙ sym (int_sum_over-subsets_without s g)
 sum-cong (true ∷ s) f g h = omega (
   arith,
   ints,
@@ -180,5 +226,7 @@ sum-cong (true ∷ s) f g h = omega (
 )
 
 -- where the coefficients are those of f on the sets of n lives, so are the values
-pub values_of : (n : ℕ) (f : List Bool → ℤ) (p : List ℤ) → ((s : List Bool) → length s ≡ n → coefficient_of p s ≡ coefficient f s) → (s : List Bool) → length s ≡ n → value_on p s ≡ f s
+pub values_of : (n : ℕ) (f : List Bool → ℤ) (p : List ℤ)
+    → ((s : List Bool) → length s ≡ n → coefficient_of p s ≡ coefficient f s) → (s : List Bool) → length s ≡ n
+    → value_on p s ≡ f s
 values_of n f p each s l = sum-cong s (coefficient_of p) (coefficient f) (λ u e. each u (e ∙ l)) ∙ coefficients-add f s

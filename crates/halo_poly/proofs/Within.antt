@@ -21,7 +21,8 @@ is_within (b ∷ u) [] = true
 is_within (b ∷ u) (a ∷ s) = (not b || a) && is_within u s
 
 -- the sum over the sets within a set is the sum over its subsets
-sum_is_within : (s : List Bool) (f : List Bool → ℤ) → int_sum_over (sets (length s)) (λ u. cond (is_within u s) (f u) (pos 0)) ≡ int_sum_over (subsets s) f
+sum_is_within : (s : List Bool) (f : List Bool → ℤ)
+    → int_sum_over (sets (length s)) (λ u. cond (is_within u s) (f u) (pos 0)) ≡ int_sum_over (subsets s) f
 sum_is_within [] f = refl
 sum_is_within (true ∷ s) f = omega (
   arith,
@@ -69,14 +70,18 @@ bits_within (suc n) mask set h =
     ∙ ap (nat_eq (high * 2 + low)) whole
     ∙ both_parts high low (mask / 2) (mask % 2) (omega (arith, and_le_l (mask % 2) (set % 2))) (omega arith)
     ∙ ap (λ b. b && nat_eq high (mask / 2)) (low_bits (mask % 2) (set % 2) (omega arith) (omega arith))
-    ∙ ap (λ b. (not (nat_eq (mask % 2) 1) || nat_eq (set % 2) 1) && b) (bits_within n (mask / 2) (set / 2) (omega (arith, pow-suc 2 n)))
+    ∙ ap (λ b. (not (nat_eq (mask % 2) 1) || nat_eq (set % 2) 1) && b)
+    (bits_within n (mask / 2) (set / 2) (omega (arith, pow-suc 2 n)))
 
 -- sums over numbers of which only those summed over count
-pub numbered : (count first : ℕ) (f g : ℕ → ℤ) → ((k : ℕ) → k < first + count → f k ≡ g k) → int_sum_over (numbers_from first count) f ≡ int_sum_over (numbers_from first count) g
+pub numbered : (count first : ℕ) (f g : ℕ → ℤ) → ((k : ℕ) → k < first + count → f k ≡ g k)
+    → int_sum_over (numbers_from first count) f ≡ int_sum_over (numbers_from first count) g
 numbered zero first f g h = refl
-numbered (suc count) first f g h = omega (arith, ints, h first (omega arith), numbered count (suc first) f g (λ k l. h k (omega arith)))
+numbered (suc count) first f g h =
+    omega (arith, ints, h first (omega arith), numbered count (suc first) f g (λ k l. h k (omega arith)))
 
-pub sum_within_set : (n : ℕ) (values p : List ℤ) (set : ℕ) (sum : ℤ) → values ≡ p → length values ≡ 2 ^ n → sum ≡ int_sum_over (numbers_from 0 (length values)) (within values set) → sum ≡ value_on p (bits n set)
+pub sum_within_set : (n : ℕ) (values p : List ℤ) (set : ℕ) (sum : ℤ) → values ≡ p → length values ≡ 2 ^ n
+    → sum ≡ int_sum_over (numbers_from 0 (length values)) (within values set) → sum ≡ value_on p (bits n set)
 sum_within_set n values p set sum e full is =
     is
     ∙ ap (λ q. int_sum_over (numbers_from 0 (length values)) (within q set)) e
@@ -90,4 +95,7 @@ sum_within_set n values p set sum e full is =
     at_set u = cond (is_within u (bits n set)) (coefficient_of p u) (pos 0)
 
     by_set : (mask : ℕ) → mask < 2 ^ n → within p set mask ≡ at_set (bits n mask)
-    by_set mask h = ap (λ b. cond b (coefficient_at p mask) (pos 0)) (bits_within n mask set h) ∙ ap (λ m. cond (is_within (bits n mask) (bits n set)) (coefficient_at p m) (pos 0)) (sym (mask_of-bits n mask h))
+    by_set mask h =
+        ap (λ b. cond b (coefficient_at p mask) (pos 0)) (bits_within n mask set h)
+        ∙ ap (λ m. cond (is_within (bits n mask) (bits n set)) (coefficient_at p m) (pos 0))
+        (sym (mask_of-bits n mask h))

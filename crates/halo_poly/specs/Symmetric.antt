@@ -1,5 +1,5 @@
 -- Symmetric statuses: so many of a list exist, told by the products of its parts.
-use Rattle.std.specs.Prelude.{◌≡◌, ◌⊎◌, ℕ, zero, suc, ◌+◌, ◌-◌, ◌≤◌, Bool, true, false, nat_eq, nat_le, List, [], ◌∷◌, ◌++◌, length, map, ⊤, ℤ, pos, negsuc, ◌*ℤ◌}
+use Rattle.std.specs.Prelude.{◌≡◌, ◌⊎◌, ℕ, zero, suc, ◌-◌, ◌≤◌, Bool, true, false, nat_eq, nat_le, List, [], ◌∷◌, ◌++◌, length, map, ⊤, ℤ, pos, negsuc, ◌*ℤ◌}
 use Rattle.halo_sums.specs.Sums.{indicator, int_sum_over, numbers_from}
 use Rattle.halo_sums.specs.Choices.{choose}
 use Rattle.halo_sums.specs.Coefficients.{alternating}
@@ -22,11 +22,15 @@ symmetric_sum j zs = int_sum_over (parts_of j zs) product_of
 
 -- the sum over j of (-1)^(j - r) C(j - 1, r - 1) times the j-th symmetric sum
 abbrev pub at_least_sum : ℕ → List ℤ → ℤ
-at_least_sum r zs = int_sum_over (numbers_from r (suc (length zs) - r)) (λ j. alternating (j - r) (pos (choose (j - 1) (r - 1)) *ℤ symmetric_sum j zs))
+at_least_sum r zs =
+    int_sum_over (numbers_from r (suc (length zs) - r))
+    (λ j. alternating (j - r) (pos (choose (j - 1) (r - 1)) *ℤ symmetric_sum j zs))
 
 -- the sum over j of (-1)^(j - r) C(j, r) times the j-th symmetric sum
 abbrev pub exactly_sum : ℕ → List ℤ → ℤ
-exactly_sum r zs = int_sum_over (numbers_from r (suc (length zs) - r)) (λ j. alternating (j - r) (pos (choose j r) *ℤ symmetric_sum j zs))
+exactly_sum r zs =
+    int_sum_over (numbers_from r (suc (length zs) - r))
+    (λ j. alternating (j - r) (pos (choose j r) *ℤ symmetric_sum j zs))
 
 -- how many of a list are true
 abbrev pub count_of : List Bool → ℕ
@@ -36,15 +40,19 @@ count_of (false ∷ bs) = count_of bs
 
 -- where statuses exist or not, at least r of them exist where this sum is 1, and else it is 0
 abbrev pub AtLeastIsSum : Type 0
-AtLeastIsSum = (r : ℕ) (bs : List Bool) → 1 ≤ r → indicator (nat_le r (count_of bs)) ≡ at_least_sum r (map indicator bs)
+AtLeastIsSum =
+    (r : ℕ) (bs : List Bool) → 1 ≤ r
+    → indicator (nat_le r (count_of bs)) ≡ at_least_sum r (map indicator bs)
 
 -- and exactly r
 abbrev pub ExactlyIsSum : Type 0
-ExactlyIsSum = (r : ℕ) (bs : List Bool) → indicator (nat_eq (count_of bs) r) ≡ exactly_sum r (map indicator bs)
+ExactlyIsSum =
+    (r : ℕ) (bs : List Bool) → indicator (nat_eq (count_of bs) r) ≡ exactly_sum r (map indicator bs)
 
 -- the j-th symmetric sum counts the parts with j statuses that exist whole
 abbrev pub SymmetricSumCounts : Type 0
-SymmetricSumCounts = (j : ℕ) (bs : List Bool) → symmetric_sum j (map indicator bs) ≡ pos (choose (count_of bs) j)
+SymmetricSumCounts =
+    (j : ℕ) (bs : List Bool) → symmetric_sum j (map indicator bs) ≡ pos (choose (count_of bs) j)
 
 -- a polynomial of n lives is of a status: its value on each set is 0 or 1
 abbrev pub IsOfStatus : ℕ → List ℤ → Type 0

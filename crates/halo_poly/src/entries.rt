@@ -8,13 +8,16 @@ ghost use Rattle.halo_poly.specs.Symmetric.{is_one};
 ghost use Rattle.halo_poly.specs.Transform.{with_life, within};
 
 use crate::transform::has_bit;
+use crate::{MOST_LIVES, MOST_SETS};
 
 // Adds the other numbers, each to the one at its place.
 pub(crate) fn add_each(values: &mut [i64], others: &[i64])
     requires length { length values.old ≡ length others.now }
-    requires fits { (k : ℕ) → FitsSigned w64 (coefficient_at values.old k +ℤ coefficient_at others.now k) }
+    requires fits { (k : ℕ) →
+        FitsSigned w64 (coefficient_at values.old k +ℤ coefficient_at others.now k) }
     ensures length { length values.new ≡ length values.old }
-    ensures sums { (k : ℕ) → coefficient_at values.new k ≡ coefficient_at values.old k +ℤ coefficient_at others.now k }
+    ensures sums { (k : ℕ) →
+        coefficient_at values.new k ≡ coefficient_at values.old k +ℤ coefficient_at others.now k }
 {
     for k in 0..values.len() {
         values[k] += others[k];
@@ -24,9 +27,11 @@ pub(crate) fn add_each(values: &mut [i64], others: &[i64])
 // Takes away the other numbers, each from the one at its place.
 pub(crate) fn take_each(values: &mut [i64], others: &[i64])
     requires length { length values.old ≡ length others.now }
-    requires fits { (k : ℕ) → FitsSigned w64 (coefficient_at values.old k -ℤ coefficient_at others.now k) }
+    requires fits { (k : ℕ) →
+        FitsSigned w64 (coefficient_at values.old k -ℤ coefficient_at others.now k) }
     ensures length { length values.new ≡ length values.old }
-    ensures differences { (k : ℕ) → coefficient_at values.new k ≡ coefficient_at values.old k -ℤ coefficient_at others.now k }
+    ensures differences { (k : ℕ) →
+        coefficient_at values.new k ≡ coefficient_at values.old k -ℤ coefficient_at others.now k }
 {
     for k in 0..values.len() {
         values[k] -= others[k];
@@ -36,9 +41,11 @@ pub(crate) fn take_each(values: &mut [i64], others: &[i64])
 // Multiplies by the other numbers, each the one at its place.
 pub(crate) fn multiply_each(values: &mut [i64], others: &[i64])
     requires length { length values.old ≡ length others.now }
-    requires fits { (k : ℕ) → k < length values.old → FitsSigned w64 (coefficient_at values.old k *ℤ coefficient_at others.now k) }
+    requires fits { (k : ℕ) → k < length values.old →
+        FitsSigned w64 (coefficient_at values.old k *ℤ coefficient_at others.now k) }
     ensures length { length values.new ≡ length values.old }
-    ensures products { (k : ℕ) → coefficient_at values.new k ≡ coefficient_at values.old k *ℤ coefficient_at others.now k }
+    ensures products { (k : ℕ) →
+        coefficient_at values.new k ≡ coefficient_at values.old k *ℤ coefficient_at others.now k }
 {
     for k in 0..values.len() {
         values[k] *= others[k];
@@ -61,7 +68,9 @@ pub(crate) fn count_ones(counts: &mut [u8], values: &[i64])
     requires length { length counts.old ≡ length values.now }
     requires room { (k : ℕ) → get_or counts.old k 0 < 255 }
     ensures length { length counts.new ≡ length counts.old }
-    ensures counts { (k : ℕ) → get_or counts.new k 0 ≡ get_or counts.old k 0 + cond (is_one (coefficient_at values.now k)) 1 0 }
+    ensures counts { (k : ℕ) →
+        get_or counts.new k 0
+        ≡ get_or counts.old k 0 + cond (is_one (coefficient_at values.now k)) 1 0 }
 {
     for k in 0..counts.len() {
         counts[k] += u8::from(values[k] == 1);
@@ -73,7 +82,8 @@ pub(crate) fn write_each(values: &mut [i64], counts: &[u8], row: &[u32])
     requires length { length values.old ≡ length counts.now }
     requires within { (k : ℕ) → get_or counts.now k 0 < length row.now }
     ensures length { length values.new ≡ length values.old }
-    ensures numbers { (k : ℕ) → k < length counts.now → coefficient_at values.new k ≡ pos (get_or row.now (get_or counts.now k 0) 0) }
+    ensures numbers { (k : ℕ) → k < length counts.now →
+        coefficient_at values.new k ≡ pos (get_or row.now (get_or counts.now k 0) 0) }
 {
     for k in 0..values.len() {
         values[k] = i64::from(row[counts[k] as usize]);
@@ -84,7 +94,8 @@ pub(crate) fn write_each(values: &mut [i64], counts: &[u8], row: &[u32])
 pub(crate) fn mark_at_least(marked: &mut [bool], counts: &[u8], least: u8)
     requires length { length marked.old ≡ length counts.now }
     ensures length { length marked.new ≡ length marked.old }
-    ensures marks { (k : ℕ) → k < length counts.now → get_or marked.new k false ≡ nat_le least (get_or counts.now k 0) }
+    ensures marks { (k : ℕ) → k < length counts.now →
+        get_or marked.new k false ≡ nat_le least (get_or counts.now k 0) }
 {
     for k in 0..marked.len() {
         marked[k] = counts[k] >= least;
@@ -95,7 +106,8 @@ pub(crate) fn mark_at_least(marked: &mut [bool], counts: &[u8], least: u8)
 pub(crate) fn mark_exactly(marked: &mut [bool], counts: &[u8], count: u8)
     requires length { length marked.old ≡ length counts.now }
     ensures length { length marked.new ≡ length marked.old }
-    ensures marks { (k : ℕ) → k < length counts.now → get_or marked.new k false ≡ nat_eq (get_or counts.now k 0) count }
+    ensures marks { (k : ℕ) → k < length counts.now →
+        get_or marked.new k false ≡ nat_eq (get_or counts.now k 0) count }
 {
     for k in 0..marked.len() {
         marked[k] = counts[k] == count;
@@ -104,8 +116,9 @@ pub(crate) fn mark_exactly(marked: &mut [bool], counts: &[u8], count: u8)
 
 // What there is at a set with one life more, and 0 if it is a life of the set already.
 fn with_life(values: &[i64], mask: usize, life: u8) -> i64
-    requires few { life < 12 }
-    requires whole { (k : ℕ) → k < length values.now → has_bit k life ≡ false → k + 2 ^ life < length values.now }
+    requires few { life < MOST_LIVES }
+    requires whole { (k : ℕ) → k < length values.now → has_bit k life ≡ false →
+        k + 2 ^ life < length values.now }
     requires within { mask < length values.now }
     ensures { result ≡ with_life values.now life mask }
 {
@@ -118,8 +131,9 @@ fn with_life(values: &[i64], mask: usize, life: u8) -> i64
 
 // Writes at each set what there is at the set with a life more, and 0 at those with the life.
 pub(crate) fn drop_each(values: &[i64], life: u8, into: &mut [i64])
-    requires few { life < 12 }
-    requires whole { (k : ℕ) → k < length values.now → has_bit k life ≡ false → k + 2 ^ life < length values.now }
+    requires few { life < MOST_LIVES }
+    requires whole { (k : ℕ) → k < length values.now → has_bit k life ≡ false →
+        k + 2 ^ life < length values.now }
     requires length { length into.old ≡ length values.now }
     ensures length { length into.new ≡ length into.old }
     ensures dropped { (k : ℕ) → coefficient_at into.new k ≡ with_life values.now life k }
@@ -139,7 +153,7 @@ fn within(values: &[i64], set: usize, mask: usize) -> i64
 
 // The sum of the numbers at the subsets of a set.
 pub(crate) fn sum_within(values: &[i64], set: usize) -> i64
-    requires few { length values.now ≤ 2 ^ 12 }
+    requires few { length values.now ≤ MOST_SETS }
     requires small { (k : ℕ) → IsSmall (coefficient_at values.now k) }
     ensures { result ≡ int_sum_over (numbers_from 0 (length values.now)) (within values.now set) }
 {
@@ -152,7 +166,7 @@ pub(crate) fn sum_within(values: &[i64], set: usize) -> i64
 
 // The sum of the sizes of the numbers.
 pub(crate) fn sum_sizes(values: &[i64]) -> u64
-    requires few { length values.now ≤ 2 ^ 12 }
+    requires few { length values.now ≤ MOST_SETS }
     requires small { (k : ℕ) → IsSmall (coefficient_at values.now k) }
     ensures { result ≡ sum_over values.now unsigned_abs }
 {

@@ -8,13 +8,13 @@
 
 mod entries;
 pub mod laws;
-mod memory;
 mod poly;
 mod survivors;
 #[cfg(test)]
 mod tests;
 mod transform;
 
-pub use memory::Memory;
-pub use poly::{LARGEST_COEFFICIENT, MOST_SETS, Poly};
-pub use survivors::{at_least, exactly, symmetric};
+pub use poly::{LARGEST_COEFFICIENT, MOST_LIVES, MOST_SETS, Poly};
+/// There was not enough memory.
+pub use std::alloc::AllocError as Memory;
+pub use survivors::{MOST_STATUSES, at_least, exactly, symmetric};

@@ -1,11 +1,12 @@
+// Polynomials of lives, and the single steps with them.
 ghost use Rattle.std.specs.Prelude.{◌≡◌, ℕ, ◌+◌, ◌^◌, ◌<◌, ◌≤◌, Bool, true, false, cond, List, get_or, length, replicate, set, ℤ, pos, unsigned_abs, ◌+ℤ◌, ◌-ℤ◌, ◌*ℤ◌, IfOk};
 ghost use Rattle.halo_sums.specs.Coefficients.{coefficient};
 ghost use Rattle.halo_sums.specs.Masks.{bits, has_bit};
 ghost use Rattle.halo_sums.specs.Sets.{in_set};
 ghost use Rattle.halo_sums.specs.Sums.{indicator, sum_over};
-ghost use Rattle.halo_sums.specs.SetMasks.{CountsSets, mask_of};
+ghost use Rattle.halo_sums.specs.SetMasks.{CountsSets};
 ghost use Rattle.halo_poly.specs.Symmetric.{is_one};
-ghost use Rattle.halo_poly.specs.Poly.{IsSmall, coefficient_at, coefficient_of, value_on};
+ghost use Rattle.halo_poly.specs.Poly.{EachOfSets, IsSmall, coefficient_at, coefficient_of, count_at, is_marked, value_on};
 
 use crate::Memory;
 use crate::entries::{add_each, drop_each, sum_sizes, sum_within, take_each};
@@ -13,16 +14,19 @@ use crate::transform::{count_values, moebius_of_counts, moebius_of_marks, multip
 use std::alloc::Global;
 use std::marker::Model;
 
-/// The most sets of lives that a polynomial has coefficients for: those of 12 lives.
+/// The most lives of a polynomial.
+pub const MOST_LIVES: u8 = 12;
+
+/// The most sets of lives that a polynomial has coefficients for: 2^12, those of 12 lives.
 pub const MOST_SETS: usize = 4096;
 
-/// The largest size of a coefficient.
-pub const LARGEST_COEFFICIENT: i64 = 1_000_000_000_000_000;
+/// The largest size of a coefficient, 10^15.
+pub const LARGEST_COEFFICIENT: u64 = 1_000_000_000_000_000;
 
 /// Whole coefficients, one for each set of lives, seen as the list of them by the set's mask.
 ///
-/// M is the number of sets: 2 to the power of the number of lives, which is from 1 to 12. Each
-/// coefficient is at most 10^15 in size.
+/// M is the number of sets: 2 to the power of the number of lives, which is from 1 to
+/// [`MOST_LIVES`]. Each coefficient is at most [`LARGEST_COEFFICIENT`] in size.
 #[derive(Debug, Drop)]
 pub struct Poly<const M: usize> {
     coefficients: Vec<i64>,
@@ -40,12 +44,13 @@ impl<const M: usize> Model for Poly<M> {
 }
 
 impl<const M: usize> Poly<M> {
-    /// The polynomial whose coefficients are all 0.
+    /// The polynomial whose coefficients are all 0, and so its values.
     pub fn zero(alloc: Global) -> Result<Poly<M>, Memory>
         requires { CountsSets M }
-        ensures { IfOk result (λ poly. poly ≡ replicate M (pos 0)) }
+        ensures coefficients { IfOk result (λ poly. poly ≡ replicate M (pos 0)) }
+        ensures values { IfOk result (λ poly. (s : List Bool) → value_on poly s ≡ pos 0) }
     {
-        let coefficients = vec![in alloc; 0; M].map_err(|_| Memory)?;
+        let coefficients = vec![in alloc; 0; M]?;
         Ok(Poly { coefficients })
     }
 
@@ -58,7 +63,7 @@ impl<const M: usize> Poly<M> {
         self.coefficients[set as usize]
     }
 
-    /// Makes the coefficient of the empty set 1 and all others 0.
+    /// Makes the coefficient of the empty set 1 and all others 0: the value is 1 on every set.
     pub fn set_one(&mut self)
         ensures coefficients { self.new ≡ set (replicate M (pos 0)) 0 (pos 1) }
         ensures values { (s : List Bool) → value_on self.new s ≡ pos 1 }
@@ -67,7 +72,8 @@ impl<const M: usize> Poly<M> {
         self.coefficients[0] = 1;
     }
 
-    /// Makes the coefficient of the set of one life 1 and all others 0.
+    /// Makes the coefficient of the set of one life 1 and all others 0: the value is 1 on the sets
+    /// that have the life, and 0 on the others.
     pub fn set_life(&mut self, life: u8)
         requires { 2 ^ life < M }
         ensures coefficients { self.new ≡ set (replicate M (pos 0)) (2 ^ life) (pos 1) }
@@ -77,20 +83,24 @@ impl<const M: usize> Poly<M> {
         self.coefficients[1 << life] = 1;
     }
 
-    /// Adds another polynomial, coefficient by coefficient.
+    /// Adds another polynomial, coefficient by coefficient, and so value by value.
     pub fn add(&mut self, o: &Poly<M>)
         requires { (set : ℕ) → IsSmall (coefficient_at self.old set +ℤ coefficient_at o.now set) }
-        ensures coefficients { (set : ℕ) → coefficient_at self.new set ≡ coefficient_at self.old set +ℤ coefficient_at o.now set }
-        ensures values { (s : List Bool) → value_on self.new s ≡ value_on self.old s +ℤ value_on o.now s }
+        ensures coefficients { (set : ℕ) →
+            coefficient_at self.new set ≡ coefficient_at self.old set +ℤ coefficient_at o.now set }
+        ensures values { (s : List Bool) →
+            value_on self.new s ≡ value_on self.old s +ℤ value_on o.now s }
     {
         add_each(&mut self.coefficients, &o.coefficients);
     }
 
-    /// Subtracts another polynomial, coefficient by coefficient.
+    /// Subtracts another polynomial, coefficient by coefficient, and so value by value.
     pub fn sub(&mut self, o: &Poly<M>)
         requires { (set : ℕ) → IsSmall (coefficient_at self.old set -ℤ coefficient_at o.now set) }
-        ensures coefficients { (set : ℕ) → coefficient_at self.new set ≡ coefficient_at self.old set -ℤ coefficient_at o.now set }
-        ensures values { (s : List Bool) → value_on self.new s ≡ value_on self.old s -ℤ value_on o.now s }
+        ensures coefficients { (set : ℕ) →
+            coefficient_at self.new set ≡ coefficient_at self.old set -ℤ coefficient_at o.now set }
+        ensures values { (s : List Bool) →
+            value_on self.new s ≡ value_on self.old s -ℤ value_on o.now s }
     {
         take_each(&mut self.coefficients, &o.coefficients);
     }
@@ -98,9 +108,12 @@ impl<const M: usize> Poly<M> {
     /// Makes another polynomial the product of this one with a third: a life in both counts once,
     /// so the value on each set is the product of the values.
     pub fn times(&self, o: &Poly<M>, into: &mut Poly<M>)
-        requires { (n : ℕ) → M ≡ 2 ^ n → (s : List Bool) → length s ≡ n → IsSmall (coefficient (λ u. value_on self.now u *ℤ value_on o.now u) s) }
-        ensures coefficients { (n : ℕ) → M ≡ 2 ^ n → (s : List Bool) → length s ≡ n → coefficient_of into.new s ≡ coefficient (λ u. value_on self.now u *ℤ value_on o.now u) s }
-        ensures values { (n : ℕ) → M ≡ 2 ^ n → (s : List Bool) → length s ≡ n → value_on into.new s ≡ value_on self.now s *ℤ value_on o.now s }
+        requires { EachOfSets M (λ s. IsSmall (coefficient
+            (λ u. value_on self.now u *ℤ value_on o.now u) s)) }
+        ensures coefficients { EachOfSets M (λ s. coefficient_of into.new s ≡ coefficient
+            (λ u. value_on self.now u *ℤ value_on o.now u) s) }
+        ensures values { EachOfSets M (λ s.
+            value_on into.new s ≡ value_on self.now s *ℤ value_on o.now s) }
     {
         multiply(
             &self.coefficients,
@@ -110,12 +123,15 @@ impl<const M: usize> Poly<M> {
         );
     }
 
-    /// Makes another polynomial the part with a life: the coefficient of each set without the life
-    /// becomes that of the set with it, and sets with it get 0.
+    /// Makes another polynomial the part with a life, the derivative in it: the coefficient of each
+    /// set without the life becomes that of the set with it, and sets with it get 0. The value on a
+    /// set is the value with the life less the value without it.
     pub fn drop_life(&self, life: u8, into: &mut Poly<M>)
         requires { 2 ^ life < M }
-        ensures coefficients { (set : ℕ) → coefficient_at into.new set ≡ cond (has_bit set life) (pos 0) (coefficient_at self.now (set + 2 ^ life)) }
-        ensures values { (n : ℕ) → M ≡ 2 ^ n → (s : List Bool) → length s ≡ n → value_on into.new s ≡ value_on self.now (set s life true) -ℤ value_on self.now (set s life false) }
+        ensures coefficients { (set : ℕ) → coefficient_at into.new set
+            ≡ cond (has_bit set life) (pos 0) (coefficient_at self.now (set + 2 ^ life)) }
+        ensures values { EachOfSets M (λ s. value_on into.new s
+            ≡ value_on self.now (set s life true) -ℤ value_on self.now (set s life false)) }
     {
         drop_each(&self.coefficients, life, &mut into.coefficients);
     }
@@ -135,14 +151,16 @@ impl<const M: usize> Poly<M> {
         sum_sizes(&self.coefficients)
     }
 
-    /// The polynomial of a status that exists where exactly the lives of a marked set are there: its
-    /// value is 1 on each set whose mask is marked, and 0 on the others.
+    /// The polynomial of a status that exists on marked sets: its value is 1 on each set of lives
+    /// whose mask is marked, and 0 on the others.
     pub fn of_sets(alloc: Global, marked: &[bool]) -> Result<Poly<M>, Memory>
         requires sets { CountsSets M }
         requires length { length marked.now ≡ M }
         ensures full { IfOk result (λ poly. length poly ≡ M) }
-        ensures coefficients { (n : ℕ) → M ≡ 2 ^ n → IfOk result (λ poly. (s : List Bool) → length s ≡ n → coefficient_of poly s ≡ coefficient (λ u. indicator (get_or marked.now (mask_of u) false)) s) }
-        ensures values { (n : ℕ) → M ≡ 2 ^ n → IfOk result (λ poly. (s : List Bool) → length s ≡ n → value_on poly s ≡ indicator (get_or marked.now (mask_of s) false)) }
+        ensures coefficients { IfOk result (λ poly. EachOfSets M (λ s.
+            coefficient_of poly s ≡ coefficient (λ u. indicator (is_marked marked.now u)) s)) }
+        ensures values { IfOk result (λ poly. EachOfSets M (λ s.
+            value_on poly s ≡ indicator (is_marked marked.now s))) }
     {
         let mut poly = Self::zero(alloc)?;
         moebius_of_marks(&mut poly.coefficients, marked, Self::lives());
@@ -155,7 +173,8 @@ impl<const M: usize> Poly<M> {
         requires full { length counts.now ≡ M }
         requires within { (k : ℕ) → get_or counts.now k 0 < length row.now }
         requires small { (c : ℕ) → get_or row.now c 0 ≤ 2 ^ 16 }
-        ensures { (n : ℕ) → M ≡ 2 ^ n → IfOk result (λ poly. (s : List Bool) → length s ≡ n → value_on poly s ≡ pos (get_or row.now (get_or counts.now (mask_of s) 0) 0)) }
+        ensures { IfOk result (λ poly. EachOfSets M (λ s.
+            value_on poly s ≡ pos (get_or row.now (count_at counts.now s) 0))) }
     {
         let mut poly = Self::zero(alloc)?;
         moebius_of_counts(&mut poly.coefficients, counts, row, Self::lives());
@@ -167,7 +186,8 @@ impl<const M: usize> Poly<M> {
         requires full { length counts.old ≡ M }
         requires few { (k : ℕ) → get_or counts.old k 0 < 255 }
         ensures length { length counts.new ≡ length counts.old }
-        ensures counts { (n : ℕ) → M ≡ 2 ^ n → (s : List Bool) → length s ≡ n → get_or counts.new (mask_of s) 0 ≡ get_or counts.old (mask_of s) 0 + cond (is_one (value_on self.now s)) 1 0 }
+        ensures counts { EachOfSets M (λ s. count_at counts.new s
+            ≡ count_at counts.old s + cond (is_one (value_on self.now s)) 1 0) }
         ensures room { (k : ℕ) → get_or counts.new k 0 ≤ get_or counts.old k 0 + 1 }
     {
         count_values(&self.coefficients, counts, Self::lives());
@@ -176,7 +196,7 @@ impl<const M: usize> Poly<M> {
     // The number of lives.
     fn lives() -> u8
         requires { CountsSets M }
-        ensures few { result ≤ 12 }
+        ensures few { result ≤ MOST_LIVES }
         ensures sets { M ≡ 2 ^ result }
     {
         M.ilog2() as u8

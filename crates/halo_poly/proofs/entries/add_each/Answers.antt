@@ -6,9 +6,12 @@ use Rattle.halo_poly.specs.Poly.{coefficient_at}
 use Rattle.halo_poly.proofs.Steps.{all_passed, none_passed, one_passed}
 use Rattle.halo_poly.proofs.entries.add_each.Goals as goal
 
-computed : (old now others : List ℤ) (k : ℕ) → SFits w64 (coefficient_at now k) → SFits w64 (coefficient_at others k) → coefficient_at now k ≡ coefficient_at old k
-    → to_z w64 (of_z w64 (coefficient_at now k)) +ℤ to_z w64 (of_z w64 (coefficient_at others k)) ≡ coefficient_at old k +ℤ coefficient_at others k
-computed old now others k f g e = rw (to_z-of_z w64 (coefficient_at now k) f, to_z-of_z w64 (coefficient_at others k) g, e) refl
+computed : (old now others : List ℤ) (k : ℕ) → SFits w64 (coefficient_at now k) → SFits w64 (coefficient_at others k)
+    → coefficient_at now k ≡ coefficient_at old k
+    → to_z w64 (of_z w64 (coefficient_at now k)) +ℤ to_z w64 (of_z w64 (coefficient_at others k))
+    ≡ coefficient_at old k +ℤ coefficient_at others k
+computed old now others k f g e =
+    rw (to_z-of_z w64 (coefficient_at now k) f, to_z-of_z w64 (coefficient_at others k) g, e) refl
 
 pub loop-k-init : goal.loop-k-init
 loop-k-init c = none_passed _ c.args.values.now
@@ -17,16 +20,26 @@ pub overflow_add-values : goal.overflow_add-values
 overflow_add-values c =
     let f : SFits w64 (coefficient_at c.loop-k.values c.loop-k.k) = search rules in
     let g : SFits w64 (coefficient_at c.args.others.now c.loop-k.k) = search rules in
-    rw (computed c.args.values.now c.loop-k.values c.args.others.now c.loop-k.k f g (c.loop-k.invariant.rest c.loop-k.k (omega arith))) (c.requires.fits c.loop-k.k)
+    rw (computed c.args.values.now c.loop-k.values c.args.others.now c.loop-k.k f g
+    (c.loop-k.invariant.rest c.loop-k.k (omega arith)))
+    (c.requires.fits c.loop-k.k)
 
 pub loop-k-preserved : goal.loop-k-preserved
 loop-k-preserved c =
     let f : SFits w64 (coefficient_at c.loop-k.values c.loop-k.k) = search rules in
     let g : SFits w64 (coefficient_at c.args.others.now c.loop-k.k) = search rules in
-    let sum = computed c.args.values.now c.loop-k.values c.args.others.now c.loop-k.k f g (c.loop-k.invariant.rest c.loop-k.k (omega arith)) in
-    one_passed _ c.args.values.now c.loop-k.values c.loop-k.k _ c.loop-k.invariant (omega arith) (rw sum (to_z-of_z w64 _ (c.requires.fits c.loop-k.k)))
+    let sum =
+    computed c.args.values.now c.loop-k.values c.args.others.now c.loop-k.k f g
+    (c.loop-k.invariant.rest c.loop-k.k (omega arith)) in
+    one_passed _ c.args.values.now c.loop-k.values c.loop-k.k _ c.loop-k.invariant (omega arith)
+    (rw sum (to_z-of_z w64 _ (c.requires.fits c.loop-k.k)))
 
 pub returns-clause-sums : goal.returns-clause-sums
 returns-clause-sums c =
     all_passed _ c.args.values.now c.loop-k.values c.loop-k.k c.loop-k.invariant (omega arith)
-    (λ k h. rw (get_or_past c.args.values.now k (pos 0) h, get_or_past c.args.others.now k (pos 0) (omega (arith, c.requires.length))) refl)
+    (λ k h.
+    rw (
+      get_or_past c.args.values.now k (pos 0) h,
+      get_or_past c.args.others.now k (pos 0) (omega (arith, c.requires.length)),
+    )
+    refl)

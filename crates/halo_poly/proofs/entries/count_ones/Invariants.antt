@@ -8,6 +8,7 @@ abbrev pub invariant-loop-k : goal.invariant-loop-k
 invariant-loop-k l =
     record {
       same : length l.counts ≡ length l.fn.counts;
-      passed : (k : ℕ) → k < l.k → get_or l.counts k 0 ≡ get_or l.fn.counts k 0 + cond (is_one (coefficient_at l.values k)) 1 0;
+      passed : (k : ℕ) → k < l.k
+          → get_or l.counts k 0 ≡ get_or l.fn.counts k 0 + cond (is_one (coefficient_at l.values k)) 1 0;
       left : (k : ℕ) → l.k ≤ k → get_or l.counts k 0 ≡ get_or l.fn.counts k 0;
     }

@@ -15,4 +15,6 @@ past_with values life k h = rw (get_or_past values (k + 2 ^ life) (pos 0) (omega
     either false = refl
 
 pub returns-clause-dropped : goal.returns-clause-dropped
-returns-clause-dropped c = all_passed _ c.args.into.now c.loop-mask.into c.loop-mask.mask c.loop-mask.invariant (omega arith) (λ k h. past_with c.args.values.now c.args.life k (omega (arith, c.requires.length)))
+returns-clause-dropped c =
+    all_passed _ c.args.into.now c.loop-mask.into c.loop-mask.mask c.loop-mask.invariant (omega arith)
+    (λ k h. past_with c.args.values.now c.args.life k (omega (arith, c.requires.length)))

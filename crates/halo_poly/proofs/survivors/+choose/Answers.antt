@@ -4,7 +4,20 @@ use Rattle.halo_poly.proofs.SymmetricSums.{choose-le, choose-step}
 use Rattle.halo_poly.proofs.survivors.+choose.Goals as goal
 
 pub returns-else-n-eq0-clause-value : goal.returns-else-n-eq0-clause-value
-returns-else-n-eq0-clause-value t c = omega (arith, c.choose.ensures.value, c.choose-else-n-eq0.ensures.value, choose-step c.args.n c.args.k (omega arith) (omega arith))
+returns-else-n-eq0-clause-value t c =
+    omega (
+      arith,
+      c.choose.ensures.value,
+      c.choose-else-n-eq0.ensures.value,
+      choose-step c.args.n c.args.k (omega arith) (omega arith),
+    )
 
 pub returns-else-n-eq0-clause-small : goal.returns-else-n-eq0-clause-small
-returns-else-n-eq0-clause-small t c = omega (arith, c.choose.ensures.value, c.choose-else-n-eq0.ensures.value, choose-step c.args.n c.args.k (omega arith) (omega arith), choose-le c.args.n c.args.k)
+returns-else-n-eq0-clause-small t c =
+    omega (
+      arith,
+      c.choose.ensures.value,
+      c.choose-else-n-eq0.ensures.value,
+      choose-step c.args.n c.args.k (omega arith) (omega arith),
+      choose-le c.args.n c.args.k,
+    )

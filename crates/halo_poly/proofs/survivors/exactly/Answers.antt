@@ -1,27 +1,25 @@
 -- The sets are marked by their counts, and the counts tell the sums.
-use Rattle.std.proofs.Common.{◌≡◌, ◌^◌, ◌<◌, arith, ap, ◌∙◌, List, Bool, false, get_or, length, map}
+use Rattle.std.proofs.Common.{◌≡◌, arith, ap, ◌∙◌, List, Bool, false, nat_eq, get_or, length}
 use Rattle.halo_sums.specs.Sums.{indicator}
-use Rattle.halo_sums.specs.SetMasks.{mask_of}
-use Rattle.halo_poly.specs.Poly.{value_on}
+use Rattle.halo_poly.specs.Poly.{EachOfSets, count_at, is_marked, value_on, values_on}
 use Rattle.halo_poly.specs.Symmetric.{exactly_sum}
-use Rattle.halo_poly.proofs.Counted.{exactly_told, if_ok, marks_written}
-use Rattle.halo_sums.proofs.SetMasks.{mask_of-lt}
+use Rattle.halo_poly.proofs.Counted.{if_ok, marks_written, sum_on_marks}
+use Rattle.halo_poly.proofs.Picked.{exactly-is-sum}
 use Rattle.halo_poly.proofs.survivors.exactly.Goals as goal
 
 pub returns : goal.returns
-returns g c = λ n e.
+returns g c =
     let marks : List Bool = c.mark_exactly.new.marked in
-    let kept : length marks ≡ c.in_ok-marked.marked.len = omega (arith, c.mark_exactly.ensures.length, c.deref_mut.ensures.len) in
-    let seen : c.deref-2.result.now ≡ marks = c.deref-2.ensures.value ∙ marks_written c.in_ok-marked.marked.len marks c.in_ok-marked.marked.items kept in
-    let full : length c.deref.result.now ≡ 2 ^ n = ap length c.deref.ensures.value ∙ c.in_ok-counts.ensures.full ∙ e in
+    let kept : length marks ≡ c.in_ok-marked.marked.len =
+    omega (arith, c.mark_exactly.ensures.length, c.deref_mut.ensures.len) in
+    let seen : c.deref-2.result.now ≡ marks =
+    c.deref-2.ensures.value ∙ marks_written c.in_ok-marked.marked.len marks c.in_ok-marked.marked.items kept in
     if_ok c.of_sets.result
-    (λ p. (s : List Bool) → length s ≡ n → value_on p s ≡ indicator (get_or c.deref-2.result.now (mask_of s) false))
-    (λ p. (s : List Bool) → length s ≡ n → value_on p s ≡ exactly_sum c.args.r (map (λ q. value_on q s) c.args.list.now))
-    (c.of_sets.ensures.values n e)
-    (λ p values s l.
-    let bound : mask_of s < 2 ^ n = rw l at (mask_of-lt s) in
-    values s l
-    ∙ ap (λ ms. indicator (get_or ms (mask_of s) false)) seen
-    ∙ exactly_told n c.args.list.now c.args.r s (get_or marks (mask_of s) false) (get_or c.deref.result.now (mask_of s) 0) (c.requires.statuses n e) l
-    (ap (λ ks. get_or ks (mask_of s) 0) c.deref.ensures.value ∙ c.in_ok-counts.ensures.counts n e s l)
-    (c.mark_exactly.ensures.marks (mask_of s) (omega (arith, full, bound))))
+    (λ p. EachOfSets g.row.M (λ s. value_on p s ≡ indicator (is_marked c.deref-2.result.now s)))
+    (λ p. EachOfSets g.row.M (λ s. value_on p s ≡ exactly_sum c.args.r (values_on c.args.list.now s)))
+    c.of_sets.ensures.values
+    (sum_on_marks g.row.M c.args.list.now c.deref.result.now c.requires.statuses
+    (ap length c.deref.ensures.value ∙ c.in_ok-counts.ensures.full)
+    (λ n e s l. ap (λ ks. count_at ks s) c.deref.ensures.value ∙ c.in_ok-counts.ensures.counts n e s l)
+    (λ k. nat_eq k c.args.r) (exactly_sum c.args.r) (exactly-is-sum c.args.r) c.deref-2.result.now
+    (λ k h. ap (λ ms. get_or ms k false) seen ∙ c.mark_exactly.ensures.marks k h))

@@ -21,7 +21,8 @@ of_counts-requires g c = (
             let low : k ≤ 16 = omega arith in
             let p : 2 ^ k ≤ 2 ^ 16 = pow-le-pow_right two_positive low in
             omega (arith, c.binomials-row.ensures.numbers k h, choose-le k c.args.j, p))
-            (λ (h : 17 ≤ k). omega (arith, get_or_past c.binomials-row.result k 0 (omega (arith, c.binomials-row.ensures.room))))
+            (λ (h : 17 ≤ k).
+            omega (arith, get_or_past c.binomials-row.result k 0 (omega (arith, c.binomials-row.ensures.room))))
             (cases_lt k 17)),
       ),
     ),

@@ -16,6 +16,13 @@ set_life-requires c =
 
 pub loop-life-preserved : goal.loop-life-preserved
 loop-life-preserved c = record {
-  count = ap length c.in_ok-push.ensures ∙ length-one_added c.loop-life.lives.items _ ∙ ap (λ n. n + 1) c.loop-life.invariant.count;
-  statuses = λ n. rw c.in_ok-push.ensures (one_status_more n c.loop-life.lives.items _ (c.loop-life.invariant.statuses n) (of_status n _ (λ s. in_set s c.loop-life.life) c.set_life.ensures.values));
+  count =
+      ap length c.in_ok-push.ensures.items
+      ∙ length-one_added c.loop-life.lives.items _
+      ∙ ap (λ n. n + 1) c.loop-life.invariant.count;
+  statuses =
+      λ n.
+      rw c.in_ok-push.ensures.items
+      (one_status_more n c.loop-life.lives.items _ (c.loop-life.invariant.statuses n)
+      (of_status n _ (λ s. in_set s c.loop-life.life) c.set_life.ensures.values));
 }

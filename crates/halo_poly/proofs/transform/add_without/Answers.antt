@@ -7,19 +7,32 @@ use Rattle.halo_poly.specs.Transform.{without}
 use Rattle.halo_poly.proofs.Steps.{HasPassed, none_passed, one_passed, without-passed, without-none}
 use Rattle.halo_poly.proofs.transform.add_without.Goals as goal
 
-unchanged : (old : List ℤ) (life k : ℕ) → has_bit k life ≡ false → coefficient_at old k +ℤ without old life k ≡ coefficient_at old k
+unchanged : (old : List ℤ) (life k : ℕ) → has_bit k life ≡ false
+    → coefficient_at old k +ℤ without old life k ≡ coefficient_at old k
 unchanged old life k e = omega (arith, ints, without-none old life k e)
 
 -- the sum as it is computed, from numbers that fit
-computed : (old now : List ℤ) (mask life : ℕ) (w : ℤ) → SFits w64 (coefficient_at now mask) → SFits w64 w → w ≡ without now life mask → HasPassed (λ k. coefficient_at old k +ℤ without old life k) old now mask
-    → to_z w64 (of_z w64 (coefficient_at now mask)) +ℤ to_z w64 (of_z w64 w) ≡ coefficient_at old mask +ℤ without old life mask
-computed old now mask life w f g e h = rw (to_z-of_z w64 (coefficient_at now mask) f, to_z-of_z w64 w g, e, h.rest mask (omega arith), without-passed _ old now mask life h (unchanged old life)) refl
+computed : (old now : List ℤ) (mask life : ℕ) (w : ℤ) → SFits w64 (coefficient_at now mask) → SFits w64 w
+    → w ≡ without now life mask → HasPassed (λ k. coefficient_at old k +ℤ without old life k) old now mask
+    → to_z w64 (of_z w64 (coefficient_at now mask)) +ℤ to_z w64 (of_z w64 w)
+    ≡ coefficient_at old mask +ℤ without old life mask
+computed old now mask life w f g e h =
+    rw (
+      to_z-of_z w64 (coefficient_at now mask) f,
+      to_z-of_z w64 w g,
+      e,
+      h.rest mask (omega arith),
+      without-passed _ old now mask life h (unchanged old life),
+    )
+    refl
 
 pub overflow_add-values : goal.overflow_add-values
 overflow_add-values c =
     let f : SFits w64 (coefficient_at c.loop-mask.values c.loop-mask.mask) = search rules in
     let g : SFits w64 c.without.result = search rules in
-    rw (computed c.args.values.now c.loop-mask.values c.loop-mask.mask c.args.life c.without.result f g c.without.ensures c.loop-mask.invariant) (c.requires.fits c.loop-mask.mask (omega arith))
+    rw (computed c.args.values.now c.loop-mask.values c.loop-mask.mask c.args.life c.without.result f g
+    c.without.ensures c.loop-mask.invariant)
+    (c.requires.fits c.loop-mask.mask (omega arith))
 
 pub loop-mask-init : goal.loop-mask-init
 loop-mask-init c = none_passed _ c.args.values.now
@@ -28,6 +41,9 @@ pub loop-mask-preserved : goal.loop-mask-preserved
 loop-mask-preserved c =
     let f : SFits w64 (coefficient_at c.loop-mask.values c.loop-mask.mask) = search rules in
     let g : SFits w64 c.without.result = search rules in
-    let sum = computed c.args.values.now c.loop-mask.values c.loop-mask.mask c.args.life c.without.result f g c.without.ensures c.loop-mask.invariant in
+    let sum =
+    computed c.args.values.now c.loop-mask.values c.loop-mask.mask c.args.life c.without.result f g
+    c.without.ensures c.loop-mask.invariant in
     let sum_fits = c.requires.fits c.loop-mask.mask (omega arith) in
-    one_passed _ c.args.values.now c.loop-mask.values c.loop-mask.mask _ c.loop-mask.invariant (omega arith) (rw sum (to_z-of_z w64 _ sum_fits))
+    one_passed _ c.args.values.now c.loop-mask.values c.loop-mask.mask _ c.loop-mask.invariant (omega arith)
+    (rw sum (to_z-of_z w64 _ sum_fits))

@@ -6,4 +6,5 @@ use Rattle.halo_poly.proofs.Steps.{HasPassed}
 use Rattle.halo_poly.proofs.transform.add_without.Given as goal
 
 abbrev pub invariant-loop-mask : goal.invariant-loop-mask
-invariant-loop-mask l = HasPassed (λ k. coefficient_at l.fn.values k +ℤ without l.fn.values l.life k) l.fn.values l.values l.mask
+invariant-loop-mask l =
+    HasPassed (λ k. coefficient_at l.fn.values k +ℤ without l.fn.values l.life k) l.fn.values l.values l.mask

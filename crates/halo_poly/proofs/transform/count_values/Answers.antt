@@ -8,14 +8,17 @@ use Rattle.halo_poly.proofs.transform.count_values.Goals as goal
 pub slice_bounds-scratch-end : goal.slice_bounds-scratch-end
 slice_bounds-scratch-end c =
     let room : 2 ^ c.args.lives ≤ 2 ^ 12 = pow-le-pow_right two_positive c.requires.few in
-    omega (arith, c.requires.full, c.requires.coefficients.0)
+    omega (arith, c.requires.full, c.requires.coefficients.full)
 
 pub slice_bounds-values-end : goal.slice_bounds-values-end
 slice_bounds-values-end c =
     let room : 2 ^ c.args.lives ≤ 2 ^ 12 = pow-le-pow_right two_positive c.requires.few in
-    sym (length-take-le (length c.args.coefficients.now) (replicate 4096 (pos 0)) (omega (arith, c.requires.full, c.requires.coefficients.0, length-replicate 4096 (pos 0))))
+    sym (length-take-le (length c.args.coefficients.now) (replicate 4096 (pos 0))
+    (omega (arith, c.requires.full, c.requires.coefficients.full, length-replicate 4096 (pos 0))))
 
 pub count_values_with-requires-clause-scratch : goal.count_values_with-requires-clause-scratch
 count_values_with-requires-clause-scratch c =
     let room : 2 ^ c.args.lives ≤ 2 ^ 12 = pow-le-pow_right two_positive c.requires.few in
-    length-take-le (length c.args.coefficients.now) (replicate 4096 (pos 0)) (omega (arith, c.requires.full, c.requires.coefficients.0, length-replicate 4096 (pos 0))) ∙ c.requires.coefficients.0
+    length-take-le (length c.args.coefficients.now) (replicate 4096 (pos 0))
+    (omega (arith, c.requires.full, c.requires.coefficients.full, length-replicate 4096 (pos 0)))
+    ∙ c.requires.coefficients.full

@@ -7,7 +7,9 @@ use Rattle.halo_poly.proofs.Masks.{has_bit-le, whole}
 use Rattle.halo_poly.proofs.transform.without.Goals as goal
 
 pub overflow_sub-result : goal.overflow_sub-result
-overflow_sub-result c = rw (whole c.args.life c.requires.few) (has_bit-le c.args.mask c.args.life (sym c.has_bit.ensures ∙ c.if-has_bit.true))
+overflow_sub-result c =
+    rw (whole c.args.life c.requires.few)
+    (has_bit-le c.args.mask c.args.life (sym c.has_bit.ensures ∙ c.if-has_bit.true))
 
 pub returns-then-has_bit : goal.returns-then-has_bit
 unfolding without

@@ -24,7 +24,8 @@ small_with p life k h = either (has_bit k life)
     either true = omega arith
     either false = h (k + 2 ^ life)
 
-dropped : (p q : List ℤ) (life k : ℕ) → p ≡ q → with_life p life k ≡ cond (has_bit k life) (pos 0) (coefficient_at q (k + 2 ^ life))
+dropped : (p q : List ℤ) (life k : ℕ) → p ≡ q
+    → with_life p life k ≡ cond (has_bit k life) (pos 0) (coefficient_at q (k + 2 ^ life))
 unfolding with_life
 dropped p q life k e = rw e refl
 
@@ -33,7 +34,16 @@ invariant_of-into g c =
     let room : length c.drop_each.new.into ≡ c.into.inside.coefficients.len = omega arith in
     let full : length c.drop_each.new.into ≡ g.row.M = omega (arith, c.into.invariant.full) in
     rw (written c.into.inside.coefficients.len c.drop_each.new.into c.into.inside.coefficients.items room)
-    (record { sets = c.into.invariant.sets; full = full; small = λ k. rw (c.drop_each.ensures.dropped k) (small_with _ c.args.life k (rw (← c.deref.ensures.value) at c.self.invariant.small)) })
+    (record {
+      sets =
+          c.into.invariant.sets;
+      full =
+          full;
+      small =
+          λ k.
+          rw (c.drop_each.ensures.dropped k)
+          (small_with _ c.args.life k (rw (← c.deref.ensures.value) at c.self.invariant.small));
+    })
 
 pub returns-clause-coefficients : goal.returns-clause-coefficients
 returns-clause-coefficients g c =
@@ -45,5 +55,7 @@ pub returns-clause-values : goal.returns-clause-values
 returns-clause-values g c =
     let room : length c.drop_each.new.into ≡ c.into.inside.coefficients.len = omega arith in
     λ n e s l. rw (written c.into.inside.coefficients.len c.drop_each.new.into c.into.inside.coefficients.items room)
-    (value_of_part c.args.self.now c.drop_each.new.into c.args.life s (exponent-lt c.args.life (length s) (rw (e, ← l) at c.requires))
-    (λ k. c.drop_each.ensures.dropped k ∙ dropped _ c.args.self.now c.args.life k (c.deref.ensures.value ∙ c.self.view_is)))
+    (value_of_part c.args.self.now c.drop_each.new.into c.args.life s
+    (exponent-lt c.args.life (length s) (rw (e, ← l) at c.requires))
+    (λ k.
+    c.drop_each.ensures.dropped k ∙ dropped _ c.args.self.now c.args.life k (c.deref.ensures.value ∙ c.self.view_is)))

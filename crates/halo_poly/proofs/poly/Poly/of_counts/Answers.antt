@@ -10,7 +10,8 @@ invariant_of-poly g c =
     let room : length c.moebius_of_counts.new.values ≡ c.poly.inside.coefficients.len = omega arith in
     let full : length c.moebius_of_counts.new.values ≡ g.row.M = omega (arith, c.poly.invariant.full) in
     rw (written c.poly.inside.coefficients.len c.moebius_of_counts.new.values c.poly.inside.coefficients.items room)
-    (is_poly g.row.M c.lives.result c.moebius_of_counts.new.values c.requires.sets c.lives.ensures.sets full c.moebius_of_counts.ensures.small)
+    (is_poly g.row.M c.lives.result c.moebius_of_counts.new.values c.requires.sets c.lives.ensures.sets full
+    c.moebius_of_counts.ensures.small)
 
 pub returns : goal.returns
 returns g c =
@@ -18,4 +19,5 @@ returns g c =
     λ n e s l.
     let same : n ≡ c.lives.result = same_exponent n c.lives.result (sym e ∙ c.lives.ensures.sets) in
     rw (written c.poly.inside.coefficients.len c.moebius_of_counts.new.values c.poly.inside.coefficients.items room)
-    (values_of c.lives.result (λ u. pos (get_or c.args.row.now (get_or c.args.counts.now (mask_of u) 0) 0)) c.moebius_of_counts.new.values c.moebius_of_counts.ensures.coefficients s (l ∙ same))
+    (values_of c.lives.result (λ u. pos (get_or c.args.row.now (get_or c.args.counts.now (mask_of u) 0) 0))
+    c.moebius_of_counts.new.values c.moebius_of_counts.ensures.coefficients s (l ∙ same))

@@ -11,7 +11,8 @@ invariant_of-poly g c =
     let room : length c.moebius_of_marks.new.values ≡ c.poly.inside.coefficients.len = omega arith in
     let full : length c.moebius_of_marks.new.values ≡ g.row.M = omega (arith, c.poly.invariant.full) in
     rw (written c.poly.inside.coefficients.len c.moebius_of_marks.new.values c.poly.inside.coefficients.items room)
-    (is_poly g.row.M c.lives.result c.moebius_of_marks.new.values c.requires.sets c.lives.ensures.sets full c.moebius_of_marks.ensures.small)
+    (is_poly g.row.M c.lives.result c.moebius_of_marks.new.values c.requires.sets c.lives.ensures.sets full
+    c.moebius_of_marks.ensures.small)
 
 pub returns-clause-full : goal.returns-clause-full
 returns-clause-full g c =
@@ -24,7 +25,8 @@ returns-clause-coefficients g c =
     let room : length c.moebius_of_marks.new.values ≡ c.poly.inside.coefficients.len = omega arith in
     λ n e s l.
     let same : n ≡ c.lives.result = same_exponent n c.lives.result (sym e ∙ c.lives.ensures.sets) in
-    rw (written c.poly.inside.coefficients.len c.moebius_of_marks.new.values c.poly.inside.coefficients.items room) (c.moebius_of_marks.ensures.coefficients s (l ∙ same))
+    rw (written c.poly.inside.coefficients.len c.moebius_of_marks.new.values c.poly.inside.coefficients.items room)
+    (c.moebius_of_marks.ensures.coefficients s (l ∙ same))
 
 pub returns-clause-values : goal.returns-clause-values
 returns-clause-values g c =
@@ -32,4 +34,5 @@ returns-clause-values g c =
     λ n e s l.
     let same : n ≡ c.lives.result = same_exponent n c.lives.result (sym e ∙ c.lives.ensures.sets) in
     rw (written c.poly.inside.coefficients.len c.moebius_of_marks.new.values c.poly.inside.coefficients.items room)
-    (values_of c.lives.result (λ u. indicator (get_or c.args.marked.now (mask_of u) false)) c.moebius_of_marks.new.values c.moebius_of_marks.ensures.coefficients s (l ∙ same))
+    (values_of c.lives.result (λ u. indicator (get_or c.args.marked.now (mask_of u) false))
+    c.moebius_of_marks.new.values c.moebius_of_marks.ensures.coefficients s (l ∙ same))

@@ -5,4 +5,5 @@ use Rattle.halo_poly.proofs.Values.{value_of_one}
 use Rattle.halo_poly.proofs.poly.Poly.set_one.Goals as goal
 
 pub returns-clause-values : goal.returns-clause-values
-returns-clause-values g c = value_of_one g.row.M _ (omega (arith, c.self.invariant.sets.is, pow_pos c.self.invariant.sets.lives)) (search rules)
+returns-clause-values g c =
+    value_of_one g.row.M _ (omega (arith, c.self.invariant.sets.is, pow_pos c.self.invariant.sets.lives)) (search rules)

@@ -1,0 +1,6 @@
+-- Two lives have four sets.
+use Rattle.std.proofs.Common.{arith, refl, rules}
+use Rattle.halo_poly.proofs.tests.second.Goals as goal
+
+pub zero-requires : goal.zero-requires
+zero-requires c = (search rules, record { lives = 2; some = omega arith; few = omega arith; is = refl })
