@@ -8,7 +8,7 @@ use Rattle.halo_sums.specs.SetMasks.{mask_of}
 use Rattle.halo_poly.specs.Poly.{IsSmall, coefficient_at, coefficient_of}
 use Rattle.halo_sums.proofs.SetMasks.{mask_of-lt}
 use Rattle.halo_poly.proofs.Masks.{two_positive}
-use Rattle.halo_poly.proofs.Passes.{coefficient-cong}
+use Rattle.halo_sums.proofs.SameLength.{coefficient-cong}
 use Rattle.halo_poly.proofs.Transforms.{abs-sub, doubled}
 
 -- a coefficient of n lives is at most 2^n times as large as the values

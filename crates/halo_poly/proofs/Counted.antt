@@ -1,29 +1,29 @@
 -- Statuses that are counted on a set, and what their number tells.
 use Rattle.std.proofs.Common.{◌≡◌, ◌⊎◌, ℕ, zero, suc, ◌+◌, ◌^◌, ◌<◌, arith, refl, ap, sym, ◌∙◌, inl, inr, List, [], ◌∷◌, length, ◌++◌, get_or, map, take, drop, add-one, Result, Ok, Err, IfOk, Bool, true, false, cond, ℤ, pos}
 use Rattle.std.proofs.Math.Seq.{take-append_seam}
-use Rattle.halo_sums.specs.Sums.{indicator}
+use Rattle.halo_sums.specs.Sums.{count_true, indicator}
 use Rattle.halo_sums.specs.SetMasks.{mask_of}
 use Rattle.halo_sums.proofs.SetMasks.{mask_of-lt}
 use Rattle.halo_poly.specs.Poly.{EachOfSets, count_at, is_marked, value_on, values_on}
 use Rattle.halo_sums.specs.Choices.{choose}
-use Rattle.halo_poly.specs.Symmetric.{AreOfStatuses, IsOfStatus, count_of, count_on, is_one, symmetric_sum}
+use Rattle.halo_poly.specs.Symmetric.{AreOfStatuses, IsOfStatus, count_on, is_one, symmetric_sum}
 use Rattle.halo_poly.proofs.SymmetricSums.{symmetric-counts}
 
-count_of-more : (b : Bool) (bs : List Bool) → count_of (b ∷ bs) ≡ cond b 1 0 + count_of bs
-count_of-more true bs = omega arith
-count_of-more false bs = omega arith
+count_true-more : (b : Bool) (bs : List Bool) → count_true (b ∷ bs) ≡ cond b 1 0 + count_true bs
+count_true-more true bs = omega arith
+count_true-more false bs = omega arith
 
 one_more : (list : List (List ℤ)) (i : ℕ) (q : List ℤ) (s : List Bool) → i < length list → q ≡ get_or list i q
     → count_on (take (suc i) list) s ≡ count_on (take i list) s + cond (is_one (value_on q s)) 1 0
 one_more [] i q s h e = absurd (omega arith)
 one_more (p ∷ list) zero q s h e =
-    ap (λ y. count_of (is_one (value_on y s) ∷ [])) (sym e) ∙ count_of-more (is_one (value_on q s)) [] ∙ omega arith
+    ap (λ y. count_true (is_one (value_on y s) ∷ [])) (sym e) ∙ count_true-more (is_one (value_on q s)) [] ∙ omega arith
 one_more (p ∷ list) (suc i) q s h e =
-    count_of-more (is_one (value_on p s)) (map (λ p. is_one (value_on p s)) (take (suc i) list))
+    count_true-more (is_one (value_on p s)) (map (λ p. is_one (value_on p s)) (take (suc i) list))
     ∙ omega (
       arith,
       one_more list i q s (omega arith) e,
-      count_of-more (is_one (value_on p s)) (map (λ p. is_one (value_on p s)) (take i list)),
+      count_true-more (is_one (value_on p s)) (map (λ p. is_one (value_on p s)) (take i list)),
     )
 
 -- with the polynomial at hand
@@ -48,7 +48,7 @@ module _ (m : ℕ) (list : List (List ℤ)) (counts : List ℕ)
     (counted : EachOfSets m (λ s. count_at counts s ≡ count_on list s)) where
   -- where the sets are marked by a test of their counts, the values are the sum that tells the test
   pub sum_on_marks : (test : ℕ → Bool) (sum : List ℤ → ℤ)
-      → ((bs : List Bool) → indicator (test (count_of bs)) ≡ sum (map indicator bs)) → (marks : List Bool)
+      → ((bs : List Bool) → indicator (test (count_true bs)) ≡ sum (map indicator bs)) → (marks : List Bool)
       → ((k : ℕ) → k < length counts → get_or marks k false ≡ test (get_or counts k 0)) → (p : List ℤ)
       → EachOfSets m (λ s. value_on p s ≡ indicator (is_marked marks s))
       → EachOfSets m (λ s. value_on p s ≡ sum (values_on list s))

@@ -1,13 +1,13 @@
 -- Sums over subsets and coefficients, life by life: one pass over all sets for each life.
-use Rattle.std.proofs.Common.{◌≡◌, ℕ, zero, suc, ◌-◌, arith, refl, ap, sym, ◌∙◌, List, [], ◌∷◌, length, set, Bool, true, false, cond, ℤ, pos, ◌+ℤ◌, ◌-ℤ◌}
-use Rattle.std.proofs.Math.Path.{fun_ext}
+use Rattle.std.proofs.Common.{◌≡◌, ℕ, zero, suc, arith, refl, ap, sym, ◌∙◌, List, [], ◌∷◌, length, set, Bool, true, false, cond, ℤ, pos, ◌+ℤ◌, ◌-ℤ◌}
 use Rattle.std.proofs.lemmas.Int.{ints}
 use Rattle.halo_sums.specs.Sums.{int_sum_over}
-use Rattle.halo_sums.specs.Sets.{in_set, size_of, subsets}
-use Rattle.halo_sums.specs.Coefficients.{alternating, coefficient}
-use Rattle.halo_sums.proofs.IntSums.{int_sum_over-add, int_sum_over-ext, int_sum_over-sub}
+use Rattle.halo_sums.specs.Sets.{in_set, subsets}
+use Rattle.halo_sums.specs.Coefficients.{coefficient}
+use Rattle.halo_sums.proofs.IntSums.{int_sum_over-add, int_sum_over-ext}
 use Rattle.halo_sums.proofs.Sets.{int_sum_over-subsets_with, int_sum_over-subsets_without}
-use Rattle.halo_sums.proofs.Coefficients.{coefficient-empty, coefficient-with, coefficient-without}
+use Rattle.halo_sums.proofs.Coefficients.{coefficient-empty, coefficient-sub, coefficient-with, coefficient-without}
+use Rattle.halo_sums.proofs.SameLength.{coefficient-cong}
 
 -- a pass for one life: to each set with the life is added what there is at the set without it
 abbrev pub sum_pass : ℕ → (List Bool → ℤ) → List Bool → ℤ
@@ -64,49 +64,14 @@ sum_passes-all (true ∷ s) f = omega (
   int_sum_over-subsets_with s f,
 )
 
-alternating-sub : (n : ℕ) (y z : ℤ) → alternating n (y -ℤ z) ≡ alternating n y -ℤ alternating n z
-alternating-sub zero y z = refl
-alternating-sub (suc n) y z = omega (arith, ints, alternating-sub n y z)
-
-coefficient-sub : (f g : List Bool → ℤ) (s : List Bool)
-    → coefficient (λ u. f u -ℤ g u) s ≡ coefficient f s -ℤ coefficient g s
-unfolding coefficient
-coefficient-sub f g s = int_sum_over-ext (subsets s) _ _ (λ u. alternating-sub (size_of s - size_of u) (f u) (g u))
-    ∙ int_sum_over-sub (subsets s) (λ u. alternating (size_of s - size_of u) (f u))
-    (λ u. alternating (size_of s - size_of u) (g u))
-
-coefficient-same : (f g : List Bool → ℤ) (s : List Bool) → ((u : List Bool) → f u ≡ g u)
-    → coefficient f s ≡ coefficient g s
-coefficient-same f g s h = ap (λ e. coefficient e s) (fun_ext h)
-
 -- and after those that take away, the coefficient
 pub difference_passes-all : (s : List Bool) (f : List Bool → ℤ) → difference_passes (length s) f s ≡ coefficient f s
 difference_passes-all [] f = sym (coefficient-empty f)
 difference_passes-all (false ∷ s) f = first_difference (length s) f false s
     ∙ difference_passes-all s (λ u. f (false ∷ u) -ℤ pos 0)
-    ∙ coefficient-same _ (λ u. f (false ∷ u)) s (λ u. omega (arith, ints))
+    ∙ coefficient-cong _ (λ u. f (false ∷ u)) s (λ u _. omega (arith, ints))
     ∙ sym (coefficient-without f s)
 difference_passes-all (true ∷ s) f = first_difference (length s) f true s
     ∙ difference_passes-all s (λ u. f (true ∷ u) -ℤ f (false ∷ u))
     ∙ coefficient-sub (λ u. f (true ∷ u)) (λ u. f (false ∷ u)) s
     ∙ sym (coefficient-with f s)
-
--- a coefficient depends on nothing but the sets of as many numbers
-pub coefficient-cong : (f g : List Bool → ℤ) (s : List Bool) → ((u : List Bool) → length u ≡ length s → f u ≡ g u)
-    → coefficient f s ≡ coefficient g s
-coefficient-cong f g [] h = omega (arith, ints, coefficient-empty f, coefficient-empty g, h [] refl)
-coefficient-cong f g (false ∷ s) h = omega (
-  arith,
-  ints,
-  coefficient-without f s,
-  coefficient-without g s,
-  coefficient-cong (λ u. f (false ∷ u)) (λ u. g (false ∷ u)) s (λ u e. h (false ∷ u) (ap suc e)),
-)
-coefficient-cong f g (true ∷ s) h = omega (
-  arith,
-  ints,
-  coefficient-with f s,
-  coefficient-with g s,
-  coefficient-cong (λ u. f (false ∷ u)) (λ u. g (false ∷ u)) s (λ u e. h (false ∷ u) (ap suc e)),
-  coefficient-cong (λ u. f (true ∷ u)) (λ u. g (true ∷ u)) s (λ u e. h (true ∷ u) (ap suc e)),
-)

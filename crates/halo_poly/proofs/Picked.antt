@@ -3,14 +3,14 @@ use Rattle.std.proofs.Common.{◌≡◌, ◌⊎◌, ℕ, zero, suc, ◌+◌, ◌
 use Rattle.std.proofs.lemmas.Bool.{cases_lt}
 use Rattle.std.proofs.lemmas.Bool.Decides.{nat_tests}
 use Rattle.std.proofs.lemmas.Int.{ints}
-use Rattle.halo_sums.specs.Sums.{indicator, int_sum_over, numbers_from}
+use Rattle.halo_sums.specs.Sums.{count_true, indicator, int_sum_over, numbers_from}
 use Rattle.halo_sums.specs.Coefficients.{alternating}
 use Rattle.halo_sums.proofs.Choices.{choose-past, choose-zero}
 use Rattle.halo_sums.proofs.Integers.{mul_add, neg_mul, pos_add, sub_mul}
 use Rattle.halo_sums.proofs.Numbers.{numbers_from-add}
 use Rattle.halo_sums.proofs.IntSums.{int_sum_over-add, int_sum_over-append, int_sum_over-ext, int_sum_over-none, int_sum_over-sub}
 use Rattle.halo_sums.specs.Choices.{choose}
-use Rattle.halo_poly.specs.Symmetric.{at_least_sum, count_of, exactly_sum, symmetric_sum}
+use Rattle.halo_poly.specs.Symmetric.{at_least_sum, exactly_sum, symmetric_sum}
 use Rattle.halo_poly.proofs.SymmetricSums.{symmetric-counts}
 
 -- a binomial coefficient with its sign
@@ -181,15 +181,15 @@ picked-is (suc c) (suc r) (suc k) h =
 
 -- a product of a signed coefficient and a symmetric sum of statuses
 term_is : (r : ℕ) (bs : List Bool) (j : ℕ)
-    → alternating (j - r) (pos (choose j r) *ℤ symmetric_sum j (map indicator bs)) ≡ products r (count_of bs) j
+    → alternating (j - r) (pos (choose j r) *ℤ symmetric_sum j (map indicator bs)) ≡ products r (count_true bs) j
 term_is r bs j =
     ap (λ z. alternating (j - r) (pos (choose j r) *ℤ z)) (symmetric-counts j bs)
-    ∙ alternating-times (j - r) (pos (choose j r)) (pos (choose (count_of bs) j))
+    ∙ alternating-times (j - r) (pos (choose j r)) (pos (choose (count_true bs) j))
 
-count_of-le : (bs : List Bool) → count_of bs ≤ length bs
-count_of-le [] = omega arith
-count_of-le (true ∷ bs) = omega (arith, count_of-le bs)
-count_of-le (false ∷ bs) = omega (arith, count_of-le bs)
+count_true-le : (bs : List Bool) → count_true bs ≤ length bs
+count_true-le [] = omega arith
+count_true-le (true ∷ bs) = omega (arith, count_true-le bs)
+count_true-le (false ∷ bs) = omega (arith, count_true-le bs)
 
 length-map : (bs : List Bool) → length (map indicator bs) ≡ length bs
 length-map [] = refl
@@ -210,11 +210,11 @@ low_none r k (suc c) h =
       none_times (pos (choose k c)),
     )
 
-pub exactly-is-sum : (r : ℕ) (bs : List Bool) → indicator (nat_eq (count_of bs) r) ≡ exactly_sum r (map indicator bs)
+pub exactly-is-sum : (r : ℕ) (bs : List Bool) → indicator (nat_eq (count_true bs) r) ≡ exactly_sum r (map indicator bs)
 exactly-is-sum r bs = ⊎_elim within past (cases_lt r (suc (length bs)))
   where
     k : ℕ
-    k = count_of bs
+    k = count_true bs
 
     window : (n : ℕ) → length (map indicator bs) ≡ n
         → exactly_sum r (map indicator bs) ≡ int_sum_over (numbers_from r (suc n - r)) (products r k)
@@ -236,7 +236,7 @@ exactly-is-sum r bs = ⊎_elim within past (cases_lt r (suc (length bs)))
         +ℤ int_sum_over (numbers_from (0 + r) (suc n - r)) (products r k) =
         ap (λ xs. int_sum_over xs (products r k)) (numbers_from-add r (suc n - r) 0)
         ∙ int_sum_over-append (numbers_from 0 r) (numbers_from (0 + r) (suc n - r)) (products r k) in
-        sym (picked-is (suc n) r k (omega (arith, count_of-le bs)))
+        sym (picked-is (suc n) r k (omega (arith, count_true-le bs)))
         ∙ ap (λ m. picked m r k) (sym split)
         ∙ all
         ∙ ap (λ z. z +ℤ int_sum_over (numbers_from (0 + r) (suc n - r)) (products r k)) (low_none r k r (omega arith))
@@ -247,7 +247,7 @@ exactly-is-sum r bs = ⊎_elim within past (cases_lt r (suc (length bs)))
     past : suc (length bs) ≤ r → indicator (nat_eq k r) ≡ exactly_sum r (map indicator bs)
     past h =
         let none : suc (length bs) - r ≡ 0 = omega arith in
-        let other : nat_eq k r ≡ false = differ k r (omega (arith, count_of-le bs)) in
+        let other : nat_eq k r ≡ false = differ k r (omega (arith, count_true-le bs)) in
         ap indicator other
         ∙ ap (λ c. int_sum_over (numbers_from r c) (products r k)) (sym none)
         ∙ sym (window (length bs) (length-map bs))
@@ -317,7 +317,7 @@ low_counted q k (suc c) h =
 
 counted_term : (q : ℕ) (bs : List Bool) (i : ℕ)
     → alternating (suc i - suc q) (pos (choose (suc i - 1) (suc q - 1)) *ℤ symmetric_sum (suc i) (map indicator bs))
-    ≡ counted q (count_of bs) i
+    ≡ counted q (count_true bs) i
 counted_term q bs i =
     let a : suc i - suc q ≡ i - q = omega arith in
     let b : suc i - 1 ≡ i = omega arith in
@@ -326,15 +326,15 @@ counted_term q bs i =
     ∙ ap (λ n. alternating (i - q) (pos (choose n (suc q - 1)) *ℤ symmetric_sum (suc i) (map indicator bs))) b
     ∙ ap (λ n. alternating (i - q) (pos (choose i n) *ℤ symmetric_sum (suc i) (map indicator bs))) d
     ∙ ap (λ z. alternating (i - q) (pos (choose i q) *ℤ z)) (symmetric-counts (suc i) bs)
-    ∙ alternating-times (i - q) (pos (choose i q)) (pos (choose (count_of bs) (suc i)))
+    ∙ alternating-times (i - q) (pos (choose i q)) (pos (choose (count_true bs) (suc i)))
 
 pub at-least-is-sum : (r : ℕ) (bs : List Bool) → 1 ≤ r
-    → indicator (nat_le r (count_of bs)) ≡ at_least_sum r (map indicator bs)
+    → indicator (nat_le r (count_true bs)) ≡ at_least_sum r (map indicator bs)
 at-least-is-sum zero bs h = absurd (omega arith)
 at-least-is-sum (suc q) bs h = ⊎_elim past within (cases_lt (length bs) q)
   where
     k : ℕ
-    k = count_of bs
+    k = count_true bs
 
     window : (n : ℕ) → length (map indicator bs) ≡ n
         → at_least_sum (suc q) (map indicator bs) ≡ int_sum_over (numbers_from q (suc n - suc q)) (counted q k)
@@ -358,7 +358,7 @@ at-least-is-sum (suc q) bs h = ⊎_elim past within (cases_lt (length bs) q)
         +ℤ int_sum_over (numbers_from (0 + q) (suc n - suc q)) (counted q k) =
         ap (λ xs. int_sum_over xs (counted q k)) (numbers_from-add q (suc n - suc q) 0)
         ∙ int_sum_over-append (numbers_from 0 q) (numbers_from (0 + q) (suc n - suc q)) (counted q k) in
-        sym (counted-is n q k (count_of-le bs))
+        sym (counted-is n q k (count_true-le bs))
         ∙ ap (λ m. int_sum_over (numbers_from 0 m) (counted q k)) (sym split)
         ∙ all
         ∙ ap (λ z. z +ℤ int_sum_over (numbers_from (0 + q) (suc n - suc q)) (counted q k))
@@ -370,6 +370,6 @@ at-least-is-sum (suc q) bs h = ⊎_elim past within (cases_lt (length bs) q)
     past : length bs < q → indicator (nat_le (suc q) k) ≡ at_least_sum (suc q) (map indicator bs)
     past g =
         let none : suc (length bs) - suc q ≡ 0 = omega arith in
-        ap indicator (no_more_told q k (omega (arith, count_of-le bs)))
+        ap indicator (no_more_told q k (omega (arith, count_true-le bs)))
         ∙ ap (λ c. int_sum_over (numbers_from q c) (counted q k)) (sym none)
         ∙ sym (window (length bs) (length-map bs))

@@ -6,16 +6,16 @@ use Rattle.std.proofs.lemmas.Bool.{cases_lt}
 use Rattle.std.proofs.lemmas.List.{get_or_past}
 use Rattle.std.proofs.lemmas.Nat.{mul-le}
 use Rattle.std.proofs.lemmas.Int.{ints, fits_signed_from_abs}
-use Rattle.halo_sums.specs.Sums.{indicator, int_sum_over}
-use Rattle.halo_sums.specs.Sets.{in_set, size_of, subsets}
+use Rattle.halo_sums.specs.Sums.{indicator}
+use Rattle.halo_sums.specs.Sets.{in_set, size_of}
 use Rattle.halo_sums.specs.Masks.{bits}
 use Rattle.halo_sums.specs.Coefficients.{coefficient}
-use Rattle.halo_sums.proofs.Sets.{int_sum_over-subsets_with, int_sum_over-subsets_without}
 use Rattle.halo_sums.proofs.Bounds.{coefficients-bounded}
 use Rattle.halo_sums.proofs.Coefficients.{coefficients-add}
 use Rattle.halo_sums.specs.SetMasks.{CountsSets, mask_of}
 use Rattle.halo_poly.specs.Poly.{IsPoly, IsSmall, coefficient_at, coefficient_of, value_on}
 use Rattle.halo_poly.specs.Transform.{without}
+use Rattle.halo_sums.proofs.SameLength.{sum-cong}
 use Rattle.halo_sums.proofs.SetMasks.{has_bit-mask_of, length-bits, mask_of-bits, mask_of-lt}
 use Rattle.halo_poly.proofs.Masks.{mask_of-without}
 use Rattle.halo_poly.proofs.Passes.{difference_pass, difference_passes, difference_passes-all, sum_pass, sum_passes, sum_passes-all}
@@ -207,23 +207,6 @@ test_small holds s few =
     size_of-le [] = omega arith
     size_of-le (true ∷ s) = omega (arith, size_of-le s)
     size_of-le (false ∷ s) = omega (arith, size_of-le s)
-
--- a sum over subsets depends on nothing but the sets of as many lives
-pub sum-cong : (s : List Bool) (f g : List Bool → ℤ) → ((u : List Bool) → length u ≡ length s → f u ≡ g u)
-    → int_sum_over (subsets s) f ≡ int_sum_over (subsets s) g
-sum-cong [] f g h = ap (λ z. z +ℤ pos 0) (h [] refl)
-sum-cong (false ∷ s) f g h =
-    int_sum_over-subsets_without s f
-    ∙ sum-cong s (λ u. f (false ∷ u)) (λ u. g (false ∷ u)) (λ u e. h (false ∷ u) (ap suc e))
-    ∙ sym (int_sum_over-subsets_without s g)
-sum-cong (true ∷ s) f g h = omega (
-  arith,
-  ints,
-  int_sum_over-subsets_with s f,
-  int_sum_over-subsets_with s g,
-  sum-cong s (λ u. f (false ∷ u)) (λ u. g (false ∷ u)) (λ u e. h (false ∷ u) (ap suc e)),
-  sum-cong s (λ u. f (true ∷ u)) (λ u. g (true ∷ u)) (λ u e. h (true ∷ u) (ap suc e)),
-)
 
 -- where the coefficients are those of f on the sets of n lives, so are the values
 pub values_of : (n : ℕ) (f : List Bool → ℤ) (p : List ℤ)

@@ -13,7 +13,7 @@ use Rattle.halo_sums.proofs.Sets.{int_sum_over-subsets_with, int_sum_over-subset
 use Rattle.halo_sums.specs.SetMasks.{mask_of}
 use Rattle.halo_poly.specs.Poly.{coefficient_at, coefficient_of, value_on}
 use Rattle.halo_sums.proofs.SetMasks.{has_bit-mask_of}
-use Rattle.halo_poly.proofs.Transforms.{sum-cong}
+use Rattle.halo_sums.proofs.SameLength.{sum-cong}
 
 pub value_of_sum : (p q first second r : List ℤ) → first ≡ p → second ≡ q
     → ((k : ℕ) → coefficient_at r k ≡ coefficient_at first k +ℤ coefficient_at second k) → (s : List Bool)

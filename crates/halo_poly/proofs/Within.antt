@@ -9,6 +9,7 @@ use Rattle.halo_sums.specs.Sets.{sets, subsets}
 use Rattle.halo_sums.specs.Masks.{bits}
 use Rattle.halo_sums.proofs.IntSums.{int_sum_over-none}
 use Rattle.halo_sums.proofs.Masks.{int_sum_over-masks}
+use Rattle.halo_sums.proofs.Numbers.{int_sum_over-numbers_ext}
 use Rattle.halo_sums.proofs.Sets.{int_sum_over-sets, int_sum_over-subsets_with, int_sum_over-subsets_without}
 use Rattle.halo_poly.specs.Poly.{coefficient_at, coefficient_of, value_on}
 use Rattle.halo_poly.specs.Transform.{within}
@@ -73,20 +74,14 @@ bits_within (suc n) mask set h =
     ∙ ap (λ b. (not (nat_eq (mask % 2) 1) || nat_eq (set % 2) 1) && b)
     (bits_within n (mask / 2) (set / 2) (omega (arith, pow-suc 2 n)))
 
--- sums over numbers of which only those summed over count
-pub numbered : (count first : ℕ) (f g : ℕ → ℤ) → ((k : ℕ) → k < first + count → f k ≡ g k)
-    → int_sum_over (numbers_from first count) f ≡ int_sum_over (numbers_from first count) g
-numbered zero first f g h = refl
-numbered (suc count) first f g h =
-    omega (arith, ints, h first (omega arith), numbered count (suc first) f g (λ k l. h k (omega arith)))
-
 pub sum_within_set : (n : ℕ) (values p : List ℤ) (set : ℕ) (sum : ℤ) → values ≡ p → length values ≡ 2 ^ n
     → sum ≡ int_sum_over (numbers_from 0 (length values)) (within values set) → sum ≡ value_on p (bits n set)
 sum_within_set n values p set sum e full is =
     is
     ∙ ap (λ q. int_sum_over (numbers_from 0 (length values)) (within q set)) e
     ∙ ap (λ m. int_sum_over (numbers_from 0 m) (within p set)) full
-    ∙ numbered (2 ^ n) 0 (within p set) (λ mask. at_set (bits n mask)) (λ mask h. by_set mask (omega arith))
+    ∙ int_sum_over-numbers_ext (2 ^ n) 0 (within p set) (λ mask. at_set (bits n mask))
+    (λ mask from h. by_set mask (omega arith))
     ∙ int_sum_over-masks n at_set
     ∙ ap (λ k. int_sum_over (sets k) at_set) (sym (length-bits n set))
     ∙ sum_is_within (bits n set) (coefficient_of p)

@@ -1,6 +1,6 @@
 -- Symmetric statuses: so many of a list exist, told by the products of its parts.
-use Rattle.std.specs.Prelude.{◌≡◌, ◌⊎◌, ℕ, zero, suc, ◌-◌, ◌≤◌, Bool, true, false, nat_eq, nat_le, List, [], ◌∷◌, ◌++◌, length, map, ⊤, ℤ, pos, negsuc, ◌*ℤ◌}
-use Rattle.halo_sums.specs.Sums.{indicator, int_sum_over, numbers_from}
+use Rattle.std.specs.Prelude.{◌≡◌, ◌⊎◌, ℕ, zero, suc, ◌-◌, ◌≤◌, Bool, false, nat_eq, nat_le, List, [], ◌∷◌, ◌++◌, length, map, ⊤, ℤ, pos, negsuc, ◌*ℤ◌}
+use Rattle.halo_sums.specs.Sums.{count_true, indicator, int_sum_over, numbers_from}
 use Rattle.halo_sums.specs.Choices.{choose}
 use Rattle.halo_sums.specs.Coefficients.{alternating}
 use Rattle.halo_poly.specs.Poly.{value_on}
@@ -32,27 +32,21 @@ exactly_sum r zs =
     int_sum_over (numbers_from r (suc (length zs) - r))
     (λ j. alternating (j - r) (pos (choose j r) *ℤ symmetric_sum j zs))
 
--- how many of a list are true
-abbrev pub count_of : List Bool → ℕ
-count_of [] = 0
-count_of (true ∷ bs) = suc (count_of bs)
-count_of (false ∷ bs) = count_of bs
-
 -- where statuses exist or not, at least r of them exist where this sum is 1, and else it is 0
 abbrev pub AtLeastIsSum : Type 0
 AtLeastIsSum =
     (r : ℕ) (bs : List Bool) → 1 ≤ r
-    → indicator (nat_le r (count_of bs)) ≡ at_least_sum r (map indicator bs)
+    → indicator (nat_le r (count_true bs)) ≡ at_least_sum r (map indicator bs)
 
 -- and exactly r
 abbrev pub ExactlyIsSum : Type 0
 ExactlyIsSum =
-    (r : ℕ) (bs : List Bool) → indicator (nat_eq (count_of bs) r) ≡ exactly_sum r (map indicator bs)
+    (r : ℕ) (bs : List Bool) → indicator (nat_eq (count_true bs) r) ≡ exactly_sum r (map indicator bs)
 
 -- the j-th symmetric sum counts the parts with j statuses that exist whole
 abbrev pub SymmetricSumCounts : Type 0
 SymmetricSumCounts =
-    (j : ℕ) (bs : List Bool) → symmetric_sum j (map indicator bs) ≡ pos (choose (count_of bs) j)
+    (j : ℕ) (bs : List Bool) → symmetric_sum j (map indicator bs) ≡ pos (choose (count_true bs) j)
 
 -- a polynomial of n lives is of a status: its value on each set is 0 or 1
 abbrev pub IsOfStatus : ℕ → List ℤ → Type 0
@@ -70,4 +64,4 @@ is_one (negsuc n) = false
 
 -- on how many of some polynomials a set has the value 1
 abbrev pub count_on : List (List ℤ) → List Bool → ℕ
-count_on ps s = count_of (map (λ p. is_one (value_on p s)) ps)
+count_on ps s = count_true (map (λ p. is_one (value_on p s)) ps)

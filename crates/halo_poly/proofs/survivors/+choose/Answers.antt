@@ -1,6 +1,6 @@
 -- The parts with one thing and those without it.
 use Rattle.std.proofs.Common.{arith}
-use Rattle.halo_poly.proofs.SymmetricSums.{choose-le, choose-step}
+use Rattle.halo_sums.proofs.Choices.{choose-le, choose-step}
 use Rattle.halo_poly.proofs.survivors.+choose.Goals as goal
 
 pub returns-else-n-eq0-clause-value : goal.returns-else-n-eq0-clause-value

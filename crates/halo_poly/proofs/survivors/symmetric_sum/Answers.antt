@@ -4,7 +4,7 @@ use Rattle.std.proofs.Math.Nat.{pow-le-pow_right}
 use Rattle.std.proofs.lemmas.Bool.{cases_lt}
 use Rattle.std.proofs.lemmas.List.{get_or_past}
 use Rattle.halo_poly.proofs.Masks.{two_positive}
-use Rattle.halo_poly.proofs.SymmetricSums.{choose-le}
+use Rattle.halo_sums.proofs.Choices.{choose-le}
 use Rattle.halo_poly.proofs.survivors.symmetric_sum.Goals as goal
 
 pub of_counts-requires : goal.of_counts-requires

@@ -5,7 +5,7 @@ use Rattle.halo_sums.specs.Sets.{in_set}
 use Rattle.halo_sums.specs.Coefficients.{coefficient}
 use Rattle.halo_poly.specs.Poly.{EachOfSets, IsSmall, value_on}
 use Rattle.halo_poly.proofs.Masks.{exponent-lt}
-use Rattle.halo_poly.proofs.Passes.{coefficient-cong}
+use Rattle.halo_sums.proofs.SameLength.{coefficient-cong}
 use Rattle.halo_poly.proofs.Transforms.{test_small}
 use Rattle.halo_poly.proofs.Values.{value_of_life}
 use Rattle.halo_poly.proofs.tests.product.Goals as goal

@@ -5,7 +5,7 @@ use Rattle.halo_sums.specs.Coefficients.{coefficient}
 use Rattle.halo_sums.specs.SetMasks.{mask_of}
 use Rattle.halo_poly.specs.Poly.{IsSmall, coefficient_at, coefficient_of, value_on}
 use Rattle.halo_sums.proofs.SetMasks.{length-bits, mask_of-bits}
-use Rattle.halo_poly.proofs.Passes.{coefficient-cong}
+use Rattle.halo_sums.proofs.SameLength.{coefficient-cong}
 use Rattle.halo_poly.proofs.Transforms.{value_fits}
 use Rattle.halo_poly.proofs.transform.multiply_with.Goals as goal
 
