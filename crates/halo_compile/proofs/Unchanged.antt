@@ -18,7 +18,8 @@ use Rattle.halo_model.proofs.Agreement.{agree}
 use Rattle.halo_compile.specs.Terms.{last_term}
 
 -- a term of another length is on as a year before
-other_term : (kind : Kind) (t n : ℕ) → 1 ≤ t → n ≢ last_term kind t → is_on (view_of kind) t n ≡ is_on (view_of kind) (t - 1) n
+other_term : (kind : Kind) (t n : ℕ) → 1 ≤ t → n ≢ last_term kind t
+    → is_on (view_of kind) t n ≡ is_on (view_of kind) (t - 1) n
 other_term Insurance t n h ne = grind (arith, nat_tests)
 other_term DuePay t n h ne = grind (arith, nat_tests)
 other_term ImmediatePay t n h ne = grind (arith, nat_tests)
@@ -32,13 +33,16 @@ either_right true b e = refl
 either_right false b e = e
 
 module _ (alive on before : ℕ → Bool) where
-  each_same : (ms : Trees) → ((n : ℕ) → any_names_term n ms ≡ true → on n ≡ before n) → each_exists alive on ms ≡ each_exists alive before ms
+  each_same : (ms : Trees) → ((n : ℕ) → any_names_term n ms ≡ true → on n ≡ before n)
+      → each_exists alive on ms ≡ each_exists alive before ms
   each_same none h = refl
   each_same (more s ms) h =
-      ap (λ b. b ∷ each_exists alive on ms) (agree alive alive on before s (λ i e. refl) (λ n e. h n (either_left _ _ e)))
+      ap (λ b. b ∷ each_exists alive on ms)
+      (agree alive alive on before s (λ i e. refl) (λ n e. h n (either_left _ _ e)))
       ∙ ap (λ bs. exists alive before s ∷ bs) (each_same ms (λ n e. h n (either_right (names_term n s) _ e)))
 
-  members_agree : (body : Tree) → ((n : ℕ) → names_term n body ≡ true → on n ≡ before n) → each_exists alive on (members_of body) ≡ each_exists alive before (members_of body)
+  members_agree : (body : Tree) → ((n : ℕ) → names_term n body ≡ true → on n ≡ before n)
+      → each_exists alive on (members_of body) ≡ each_exists alive before (members_of body)
   members_agree (joint ms) h = each_same ms h
   members_agree (life i) h = refl
   members_agree (term n) h = refl
@@ -47,12 +51,17 @@ module _ (alive on before : ℕ → Bool) where
   members_agree (exactly r ms) h = refl
   members_agree (after s t) h = refl
 
-  same_by_mark : (mark : Option Mark) (body : Tree) → ((n : ℕ) → names_term n body ≡ true → on n ≡ before n) → exists_by_mark mark body alive on ≡ exists_by_mark mark body alive before
+  same_by_mark : (mark : Option Mark) (body : Tree) → ((n : ℕ) → names_term n body ≡ true → on n ≡ before n)
+      → exists_by_mark mark body alive on ≡ exists_by_mark mark body alive before
   same_by_mark None body h = agree alive alive on before body (λ i e. refl) h
   same_by_mark (Some mark) body h = ap (waits_at_rank mark) (members_agree body h)
 
-pub unchanged : (pay : PlainPay) (t : ℕ) → 1 ≤ t → names_term (last_term pay.kind t) pay.body ≡ false → (u : List Bool) → existence pay t u ≡ existence pay (t - 1) u
-unchanged pay t h unnamed u = ap indicator (same_by_mark (in_set u) (is_on (view_of pay.kind) t) (is_on (view_of pay.kind) (t - 1)) pay.mark pay.body (λ n e. other_term pay.kind t n h (named n e)))
+pub unchanged : (pay : PlainPay) (t : ℕ) → 1 ≤ t → names_term (last_term pay.kind t) pay.body ≡ false → (u : List Bool)
+    → existence pay t u ≡ existence pay (t - 1) u
+unchanged pay t h unnamed u =
+    ap indicator
+    (same_by_mark (in_set u) (is_on (view_of pay.kind) t) (is_on (view_of pay.kind) (t - 1)) pay.mark pay.body
+    (λ n e. other_term pay.kind t n h (named n e)))
   where
     named : (n : ℕ) → names_term n pay.body ≡ true → n ≢ last_term pay.kind t
     named n e same = false≢true (sym unnamed ∙ rw same at e)

@@ -9,5 +9,5 @@ abbrev pub segment_weight : {m : ℕ} → Segment m → ℕ
 segment_weight s = sum_over s.poly unsigned_abs
 
 -- the greatest of these, at least 1
-abbrev pub weight_of : {m : ℕ} → List (Segment m) → ℕ
-weight_of segments = greatest 1 (map segment_weight segments)
+abbrev pub greatest_weight : {m : ℕ} → List (Segment m) → ℕ
+greatest_weight segments = greatest 1 (map segment_weight segments)

@@ -9,7 +9,11 @@ ghost use Rattle.halo_status.specs.View.{is_on};
 ghost use Rattle.halo_model.specs.Coefficient.{view_of, waits_at_rank};
 ghost use Rattle.halo_compile.specs.Marks.{MarksBlock, MarksExistence};
 
+use halo_poly::MOST_SETS;
 use halo_status::{Kind, Mark, Members, Pay, Status, View, exactly_in_block};
+
+// The sets of a block, one for each bit of a number.
+const BLOCK: usize = 64;
 
 // At which end of the years a kind of pay looks at its terms.
 pub(crate) fn view_of(kind: Kind) -> View
@@ -23,7 +27,8 @@ pub(crate) fn view_of(kind: Kind) -> View
 
 // On which sets of a block the member at a place exists.
 fn member_exists(members: &Members, place: usize, block: u16, view: View, t: u16) -> u64
-    ensures { IsInBlock block (λ alive. get_or (each_exists alive (is_on view t) (trees_in members.now)) place false) result }
+    ensures { IsInBlock block (λ alive.
+        get_or (each_exists alive (is_on view t) (trees_in members.now)) place false) result }
 {
     if place < members.len() {
         members.at(place).exists_in_block(block, view, t)
@@ -32,10 +37,11 @@ fn member_exists(members: &Members, place: usize, block: u16, view: View, t: u16
     }
 }
 
-// On which sets of a block the marked member exists and exactly as many others as there are when it is
-// next to fail at its rank.
+// On which sets of a block the marked member exists and exactly as many others as there are when it
+// is next to fail at its rank.
 fn waits_at_rank(members: &Members, mark: Mark, block: u16, view: View, t: u16) -> u64
-    ensures { IsInBlock block (λ alive. waits_at_rank mark (each_exists alive (is_on view t) (trees_in members.now))) result }
+    ensures { IsInBlock block (λ alive.
+        waits_at_rank mark (each_exists alive (is_on view t) (trees_in members.now))) result }
 {
     let others = members.len().saturating_sub(mark.rank as usize);
     let count = (others + 1) as u8;
@@ -65,12 +71,12 @@ fn exists_by_mark(pay: &Pay, block: u16, t: u16) -> u64
 
 // On which sets of the block of a set a pay exists, given what there was for the set before it.
 fn marks_at(pay: &Pay, set: usize, before: u64, t: u16) -> u64
-    requires few { set < 2 ^ 12 }
-    requires before { set % 64 ≢ 0 → MarksBlock (pay_of pay.now) t (set / 64) before }
-    ensures { MarksBlock (pay_of pay.now) t (set / 64) result }
+    requires few { set < MOST_SETS }
+    requires before { set % BLOCK ≢ 0 → MarksBlock (pay_of pay.now) t (set / BLOCK) before }
+    ensures { MarksBlock (pay_of pay.now) t (set / BLOCK) result }
 {
-    if set % 64 == 0 {
-        exists_by_mark(pay, (set / 64) as u16, t)
+    if set % BLOCK == 0 {
+        exists_by_mark(pay, (set / BLOCK) as u16, t)
     } else {
         before
     }
@@ -78,14 +84,14 @@ fn marks_at(pay: &Pay, set: usize, before: u64, t: u16) -> u64
 
 // Whether a set is marked in its block.
 fn is_marked(marks: u64, set: usize) -> bool
-    ensures { result ≡ has_bit marks (set % 64) }
+    ensures { result ≡ has_bit marks (set % BLOCK) }
 {
-    marks >> (set % 64) & 1 == 1
+    marks >> (set % BLOCK) & 1 == 1
 }
 
 // Marks the sets of lives on which a pay exists at a time.
 pub(crate) fn mark_existence(marked: &mut [bool], pay: &Pay, t: u16)
-    requires { length marked.old ≤ 2 ^ 12 }
+    requires { length marked.old ≤ MOST_SETS }
     ensures length { length marked.new ≡ length marked.old }
     ensures marks { MarksExistence (pay_of pay.now) t marked.new }
 {

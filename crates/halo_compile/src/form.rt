@@ -1,7 +1,8 @@
+// Compiled forms, and what is read off them.
 ghost use Rattle.std.specs.Prelude.{◌≡◌, ℕ, ◌<◌, ◌≤◌, length};
 ghost use Rattle.halo_status.specs.Pay.{PlainPay};
 ghost use Rattle.halo_compile.specs.Form.{HasTime, IsForm, IsPolyOf, segment_at};
-ghost use Rattle.halo_compile.specs.Weight.{weight_of};
+ghost use Rattle.halo_compile.specs.Weight.{greatest_weight};
 
 use halo_poly::Poly;
 use std::marker::Model;
@@ -43,7 +44,8 @@ impl<const M: usize> Form<M> {
     /// The polynomial of a time of the form.
     pub fn at(&self, t: u16) -> &Poly<M>
         requires { (place : ℕ) × HasTime self.now t place }
-        ensures { (pay : PlainPay) (n horizon : ℕ) → IsForm pay n horizon self.now → IsPolyOf pay n t result.now }
+        ensures { (pay : PlainPay) (n horizon : ℕ) → IsForm pay n horizon self.now →
+            IsPolyOf pay n t result.now }
     {
         for segment in self.segments.as_slice() {
             if segment.from <= t && t <= segment.to {
@@ -55,7 +57,7 @@ impl<const M: usize> Form<M> {
 
     /// The weight: the greatest sum of the sizes of a segment's coefficients, at least 1.
     pub fn weight(&self) -> u64
-        ensures { result ≡ weight_of self.now }
+        ensures { result ≡ greatest_weight self.now }
     {
         let mut weight = 1;
         for i in 0..self.segments.len() {

@@ -2,19 +2,19 @@
 //! lives, the polynomial of its existence by inclusion and exclusion.
 //!
 //! The expected value of a pay is then a sum over sets of lives, of the coefficients times the
-//! probabilities that all lives of the set are alive. A task puts a form together with the lives and
-//! the interest that it is valued with.
+//! probabilities that all lives of the set are alive. A task puts a form together with the lives
+//! and the interest that it is valued with.
 #![tactic(auto)]
 
 mod existence;
 mod form;
-mod memory;
 mod segments;
 pub mod task;
 #[cfg(test)]
 mod tests;
 
 pub use form::{Form, Segment};
-pub use memory::Memory;
 pub use segments::compile;
+/// There was not enough memory.
+pub use std::alloc::AllocError as Memory;
 pub use task::Task;

@@ -1,3 +1,4 @@
+// Forms of two and three lives, worked by hand.
 ghost use Rattle.std.specs.Prelude.{◌≡◌, [], ◌∷◌, IfOk};
 
 use crate::{Form, Memory, compile};
@@ -6,7 +7,8 @@ use std::alloc::Global;
 use std::process::Abort;
 use std::test::Fail;
 
-// The coefficients of the sets of three lives, by their masks, at the times from the first to the last.
+// The coefficients of the sets of three lives, by their masks, at the times from the first to the
+// last.
 type Row = (u16, u16, [i64; 8]);
 
 fn pair(alloc: Global, first: Status, second: Status) -> Result<Members, halo_status::Memory>

@@ -13,5 +13,7 @@ invariant-loop-set l =
     record {
       same : length l.marked ≡ length l.fn.marked;
       block : l.set % 64 ≢ 0 → MarksBlock (pay_of l.pay) l.t (l.set / 64) l.marks;
-      marks : (k : ℕ) → k < l.set → get_or l.marked k false ≡ exists_by_mark l.pay.mark (tree_of l.pay.body) (has_bit k) (is_on (view_of l.pay.kind) l.t);
+      marks : (k : ℕ) → k < l.set
+          → get_or l.marked k false
+          ≡ exists_by_mark l.pay.mark (tree_of l.pay.body) (has_bit k) (is_on (view_of l.pay.kind) l.t);
     }

@@ -12,6 +12,10 @@ pub returns : goal.returns
 returns c = λ j h.
     let alive : ℕ → Bool = has_bit (64 * c.args.block + j) in
     let bs : List Bool = each_exists alive (is_on c.args.view c.args.t) (trees_in c.args.members.now) in
-    let others : c.saturating_sub-others.result ≡ length bs - c.args.mark.rank = c.saturating_sub-others.ensures ∙ ap (λ n. n - c.args.mark.rank) (c.len.ensures.value ∙ sym (length-each_exists alive (is_on c.args.view c.args.t) c.args.members.now)) in
+    let others : c.saturating_sub-others.result ≡ length bs - c.args.mark.rank =
+    c.saturating_sub-others.ensures
+    ∙ ap (λ n. n - c.args.mark.rank)
+    (c.len.ensures.value ∙ sym (length-each_exists alive (is_on c.args.view c.args.t) c.args.members.now)) in
     has_bit-and c.member_exists.result c.exactly_in_block.result j
-    ∙ waiting c.args.mark bs c.saturating_sub-others.result _ _ others (c.member_exists.ensures j h) (c.exactly_in_block.ensures j h)
+    ∙ waiting c.args.mark bs c.saturating_sub-others.result _ _ others (c.member_exists.ensures j h)
+    (c.exactly_in_block.ensures j h)

@@ -21,8 +21,10 @@ written : (k : ℕ) (xs ys : List Bool) → length xs ≡ k → take k (xs ++ dr
 written k xs ys e = rw (← e) (take-append_seam xs (drop (length xs) ys))
 
 -- the polynomial of the marked sets is that of the pay
-poly_of_marks : (pay : PlainPay) (n from : ℕ) (marks seen : List Bool) (p : List ℤ) → MarksExistence pay from marks → length marks ≡ 2 ^ n → seen ≡ marks → length p ≡ 2 ^ n
-    → ((s : List Bool) → length s ≡ n → coefficient_of p s ≡ coefficient (λ u. indicator (get_or seen (mask_of u) false)) s)
+poly_of_marks : (pay : PlainPay) (n from : ℕ) (marks seen : List Bool) (p : List ℤ) → MarksExistence pay from marks
+    → length marks ≡ 2 ^ n → seen ≡ marks → length p ≡ 2 ^ n
+    → ((s : List Bool) → length s ≡ n
+    → coefficient_of p s ≡ coefficient (λ u. indicator (get_or seen (mask_of u) false)) s)
     → ((s : List Bool) → length s ≡ n → value_on p s ≡ indicator (get_or seen (mask_of s) false))
     → IsPolyOf pay n from p
 poly_of_marks pay n from marks seen p is full e whole coefficients values = record {
@@ -32,35 +34,59 @@ poly_of_marks pay n from marks seen p is full e whole coefficients values = reco
 }
 
 pub mark_existence-requires : goal.mark_existence-requires
-mark_existence-requires g c = omega (arith, few_sets g.row.M c.requires.sets, c.loop-from.invariant.room, ap length c.deref_mut.ensures.value)
+mark_existence-requires g c =
+    omega (arith, few_sets g.row.M c.requires.sets, c.loop-from.invariant.room, ap length c.deref_mut.ensures.value)
 
 pub next_change-until-requires-clause-sets : goal.next_change-until-requires-clause-sets
 next_change-until-requires-clause-sets g c =
-    let kept : length c.mark_existence.new.marked ≡ c.loop-from.marked.len = omega (arith, c.mark_existence.ensures.length, c.deref_mut.ensures.len) in
-    let seen = c.deref.ensures.value ∙ written c.loop-from.marked.len c.mark_existence.new.marked c.loop-from.marked.items kept in
-    omega (arith, few_sets g.row.M c.requires.sets, c.loop-from.invariant.room, ap length seen, c.mark_existence.ensures.length, ap length c.deref_mut.ensures.value)
+    let kept : length c.mark_existence.new.marked ≡ c.loop-from.marked.len =
+    omega (arith, c.mark_existence.ensures.length, c.deref_mut.ensures.len) in
+    let seen =
+    c.deref.ensures.value
+    ∙ written c.loop-from.marked.len c.mark_existence.new.marked c.loop-from.marked.items kept in
+    omega (
+      arith,
+      few_sets g.row.M c.requires.sets,
+      c.loop-from.invariant.room,
+      ap length seen,
+      c.mark_existence.ensures.length,
+      ap length c.deref_mut.ensures.value,
+    )
 
 pub loop-from-preserved : goal.loop-from-preserved
 loop-from-preserved g c =
     let pay : PlainPay = pay_of c.args.pay.now in
     let marks : List Bool = c.mark_existence.new.marked in
-    let full : length marks ≡ g.row.M = c.mark_existence.ensures.length ∙ ap length c.deref_mut.ensures.value ∙ c.loop-from.invariant.room in
-    let kept : length marks ≡ c.loop-from.marked.len = omega (arith, c.mark_existence.ensures.length, c.deref_mut.ensures.len) in
+    let full : length marks ≡ g.row.M =
+    c.mark_existence.ensures.length ∙ ap length c.deref_mut.ensures.value ∙ c.loop-from.invariant.room in
+    let kept : length marks ≡ c.loop-from.marked.len =
+    omega (arith, c.mark_existence.ensures.length, c.deref_mut.ensures.len) in
     let back = written c.loop-from.marked.len marks c.loop-from.marked.items kept in
     let seen = c.deref.ensures.value ∙ back in
     let seen_again = c.deref-in-loop-from.ensures.value ∙ back in
-    let kept_too : length c.next_change-until.new.next ≡ c.loop-from.next.len = omega (arith, c.next_change-until.ensures.room, c.deref_mut-in-loop-from.ensures.len) in
-    let full_too : length c.next_change-until.new.next ≡ g.row.M = c.next_change-until.ensures.room ∙ ap length c.deref_mut-in-loop-from.ensures.value ∙ c.loop-from.invariant.room_too in
+    let kept_too : length c.next_change-until.new.next ≡ c.loop-from.next.len =
+    omega (arith, c.next_change-until.ensures.room, c.deref_mut-in-loop-from.ensures.len) in
+    let full_too : length c.next_change-until.new.next ≡ g.row.M =
+    c.next_change-until.ensures.room
+    ∙ ap length c.deref_mut-in-loop-from.ensures.value
+    ∙ c.loop-from.invariant.room_too in
     record {
       room = rw back full;
-      room_too = rw (written c.loop-from.next.len c.next_change-until.new.next c.loop-from.next.items kept_too) full_too;
+      room_too =
+          rw (written c.loop-from.next.len c.next_change-until.new.next c.loop-from.next.items kept_too) full_too;
       within = c.next_change-until.ensures.within;
       built = λ n e.
           let full_seen : length c.deref.result.now ≡ 2 ^ n = ap length seen ∙ full ∙ e in
           let same = c.next_change-until.ensures.same n full_seen in
-          let first : IsPolyOf pay n c.loop-from.from c.in_ok-poly.poly = poly_of_marks pay n c.loop-from.from marks c.deref-in-loop-from.result.now c.in_ok-poly.poly c.mark_existence.ensures.marks (full ∙ e) seen_again (c.in_ok-poly.ensures.full ∙ e) (c.in_ok-poly.ensures.coefficients n e) (c.in_ok-poly.ensures.values n e) in
-          rw c.in_ok-push.ensures (one_built pay n (first_time c.args.pay.now.kind) c.loop-from.from c.next_change-until.result (c.first_time-from.result + c.args.horizon) c.loop-from.segments.items _
-          (c.loop-from.invariant.built n e) refl refl c.next_change-until.ensures.later c.next_change-until.ensures.within same (c.next_change-until.ensures.changes n full_seen)
+          let first : IsPolyOf pay n c.loop-from.from c.in_ok-poly.poly =
+          poly_of_marks pay n c.loop-from.from marks c.deref-in-loop-from.result.now c.in_ok-poly.poly
+          c.mark_existence.ensures.marks (full ∙ e) seen_again (c.in_ok-poly.ensures.full ∙ e)
+          (c.in_ok-poly.ensures.coefficients n e) (c.in_ok-poly.ensures.values n e) in
+          rw c.in_ok-push.ensures.items
+          (one_built pay n (first_time c.args.pay.now.kind) c.loop-from.from c.next_change-until.result
+          (c.first_time-from.result + c.args.horizon) c.loop-from.segments.items _
+          (c.loop-from.invariant.built n e) refl refl c.next_change-until.ensures.later
+          c.next_change-until.ensures.within same (c.next_change-until.ensures.changes n full_seen)
           (λ t low high. poly_of_run pay n t c.loop-from.from c.in_ok-poly.poly first (same t low high)));
     }
 
@@ -68,7 +94,14 @@ pub returns-clause-weight : goal.returns-clause-weight
 returns-clause-weight g c = λ n e.
     let pay : PlainPay = pay_of c.args.pay.now in
     let built = c.loop-from.invariant.built n e in
-    let at_end : c.loop-from.from ≡ c.first_time-from.result + c.args.horizon = omega (arith, c.loop-from.invariant.within) in
-    let times : suc (c.first_time-from.result + c.args.horizon - 1) - first_time c.args.pay.now.kind ≡ c.args.horizon = omega (arith, c.first_time-from.ensures, c.requires.some) in
-    weights pay n c.loop-from.segments.items (first_time c.args.pay.now.kind) (c.first_time-from.result + c.args.horizon - 1) (built.ended at_end) built.have
-    ∙ ap (λ count. greatest 1 (map (λ t. sum_over (coefficients_at pay n t) size) (numbers_from (first_time c.args.pay.now.kind) count))) times
+    let at_end : c.loop-from.from ≡ c.first_time-from.result + c.args.horizon =
+    omega (arith, c.loop-from.invariant.within) in
+    let times : suc (c.first_time-from.result + c.args.horizon - 1) - first_time c.args.pay.now.kind ≡ c.args.horizon =
+    omega (arith, c.first_time-from.ensures, c.requires.some) in
+    weights pay n c.loop-from.segments.items (first_time c.args.pay.now.kind)
+    (c.first_time-from.result + c.args.horizon - 1) (built.ended at_end) built.have
+    ∙ ap
+    (λ count.
+    greatest 1
+    (map (λ t. sum_over (coefficients_at pay n t) size) (numbers_from (first_time c.args.pay.now.kind) count)))
+    times

@@ -8,5 +8,6 @@ abbrev pub invariant-loop-t : goal.invariant-loop-t
 invariant-loop-t l =
     record {
       room : length l.next ≡ length l.marked;
-      same : (n : ℕ) → length l.marked ≡ 2 ^ n → (t : ℕ) → l.from ≤ t → t < l.t → coefficients_at (pay_of l.pay) n t ≡ coefficients_at (pay_of l.pay) n l.from;
+      same : (n : ℕ) → length l.marked ≡ 2 ^ n → (t : ℕ) → l.from ≤ t → t < l.t
+          → coefficients_at (pay_of l.pay) n t ≡ coefficients_at (pay_of l.pay) n l.from;
     }

@@ -5,4 +5,10 @@ use Rattle.halo_compile.proofs.Weights.{at_least_one}
 use Rattle.halo_compile.proofs.form.Form.weight.Goals as goal
 
 pub loop-i-init : goal.loop-i-init
-loop-i-init g c = record { some = omega arith; greatest = omega (arith, at_least_one (map segment_weight c.self.inside.segments.items)) }
+loop-i-init g c =
+    record {
+      some =
+          omega arith;
+      greatest =
+          omega (arith, at_least_one (map segment_weight c.self.inside.segments.items));
+    }
