@@ -16,7 +16,8 @@ pub cost-list : (old new all : ℕ) → CostsMembers old new all all → CostsTr
 unfolding CostsTree CostsMembers
 cost-list old new all c most h = omega (arith, c most (omega arith))
 
-pub cost-after : (old first then new s t : ℕ) → CostsTree old first s → CostsTree first then t → new ≡ then + 1 → CostsTree old new (1 + s + t)
+pub cost-after : (old first then new s t : ℕ) → CostsTree old first s → CostsTree first then t → new ≡ then + 1
+    → CostsTree old new (1 + s + t)
 unfolding CostsTree
 cost-after old first then new s t a b e most h = omega (arith, a most (omega arith), b most (omega arith))
 
@@ -28,7 +29,9 @@ pub cost-nothing : (old count all : ℕ) → CostsMembers old old count all
 unfolding CostsMembers
 cost-nothing old count all most h = omega arith
 
-pub cost-member : (old before member new count rest all : ℕ) → CostsMembers old before rest all → CostsTree before member count → new ≤ member + 2 * (all + 1) → count ≤ all → CostsMembers old new (count + rest) all
+pub cost-member : (old before member new count rest all : ℕ) → CostsMembers old before rest all
+    → CostsTree before member count → new ≤ member + 2 * (all + 1) → count ≤ all
+    → CostsMembers old new (count + rest) all
 unfolding CostsTree CostsMembers
 cost-member old before member new count rest all a b h small most k = omega (arith, a most k, b most (omega arith))
 
@@ -54,19 +57,23 @@ length-nodes [] = omega arith
 length-nodes (s ∷ ms) = omega (arith, length-nodes ms, nodes-positive (tree_of s))
 
 -- a member and the others have the nodes of the list
-nodes-split : (ms : Trees) (place : ℕ) (s : Tree) → member_at ms place ≡ Some s → nodes s + nodes_in (others_of ms place) ≡ nodes_in ms
+nodes-split : (ms : Trees) (place : ℕ) (s : Tree) → member_at ms place ≡ Some s
+    → nodes s + nodes_in (others_of ms place) ≡ nodes_in ms
 nodes-split none place s e = absurd (cc)
 nodes-split (more m ms) zero s e = let q : m ≡ s = grind arith in rw q (omega arith)
 nodes-split (more m ms) (suc place) s e = omega (arith, nodes-split ms place s e)
 
-pub cost-mark : (old others marked new : ℕ) (ms : Trees) (place : ℕ) (s : Tree) → member_at ms place ≡ Some s → CostsMembers old others (nodes_in (others_of ms place)) (nodes_in ms) → CostsTree others marked (nodes s) → new ≡ marked + 1 → new ≤ old + 2 * (nodes (joint ms) + 1) ^ 2
+pub cost-mark : (old others marked new : ℕ) (ms : Trees) (place : ℕ) (s : Tree) → member_at ms place ≡ Some s
+    → CostsMembers old others (nodes_in (others_of ms place)) (nodes_in ms) → CostsTree others marked (nodes s)
+    → new ≡ marked + 1 → new ≤ old + 2 * (nodes (joint ms) + 1) ^ 2
 unfolding CostsTree CostsMembers
 cost-mark old others marked new ms place s e a b next =
     let all = nodes_in ms + 1 in
     let split = nodes-split ms place s e in
     let one = a all (omega arith) in
     let two = b all (omega (arith, split)) in
-    let shares : all * nodes s + all * nodes_in (others_of ms place) ≡ all * nodes_in ms = rw (sym split) (omega arith) in
+    let shares : all * nodes s + all * nodes_in (others_of ms place) ≡ all * nodes_in ms =
+    rw (sym split) (omega arith) in
     rw (squared (nodes (joint ms) + 1)) (omega (arith, one, two, shares, next))
   where
     squared : (n : ℕ) → n ^ 2 ≡ n * n

@@ -23,25 +23,38 @@ proper n d w i positive c =
     omega (arith, ints, small)
 
 -- the contrary of a chance: 1 less it
-pub contrary-enclosed : (n d w : ℕ) (i one r : Ends) → 0 < d → EnclosesChance n d w i → one.lo ≡ pos fine → one.hi ≡ pos fine
+pub contrary-enclosed : (n d w : ℕ) (i one r : Ends) → 0 < d → EnclosesChance n d w i → one.lo ≡ pos fine
+    → one.hi ≡ pos fine
     → r.lo ≡ one.lo -ℤ i.hi → r.hi ≡ one.hi -ℤ i.lo → EnclosesChance (d - n) d w r
 contrary-enclosed n d w i one r positive c e f lo hi = record {
-  encloses = rw (rest n d (proper n d w i positive c)) (encloses_sub one i r (pos d) (pos n) d lo hi (record { low = rw e (omega (arith, ints)); high = rw f (omega (arith, ints)) }) c.encloses);
+  encloses =
+      rw (rest n d (proper n d w i positive c))
+      (encloses_sub one i r (pos d) (pos n) d lo hi
+      (record { low = rw e (omega (arith, ints)); high = rw f (omega (arith, ints)) }) c.encloses);
   narrow = record { near = rw (lo, hi, e, f) (omega (arith, ints, c.narrow.near)) };
-  within = record { low = rw (lo, e) (omega (arith, ints, c.within.high)); high = rw (hi, f) (omega (arith, ints, c.within.low)) };
+  within =
+      record {
+        low =
+            rw (lo, e) (omega (arith, ints, c.within.high));
+        high =
+            rw (hi, f) (omega (arith, ints, c.within.low));
+      };
 }
   where
     rest : (n d : ℕ) → n ≤ d → pos (d - n) ≡ pos d -ℤ pos n
     rest n d h = omega (arith, ints)
 
 module _ (n d w : ℕ → ℕ) (entries : List Ends) where
-  pub narrower : (some all : ℕ → Bool) → ((i : ℕ) → IsTrue (some i) → IsTrue (all i)) → AreEnclosed n d w entries all → AreEnclosed n d w entries some
+  pub narrower : (some all : ℕ → Bool) → ((i : ℕ) → IsTrue (some i) → IsTrue (all i)) → AreEnclosed n d w entries all
+      → AreEnclosed n d w entries some
   narrower some all within e = record { some = λ i h. e.some i (within i h); each = λ i h. e.each i (within i h) }
 
-  pub of-first : (s : Tree) (ms : Trees) → AreEnclosed n d w entries (λ a. any_names_life a (more s ms)) → AreEnclosed n d w entries (λ a. names_life a s)
+  pub of-first : (s : Tree) (ms : Trees) → AreEnclosed n d w entries (λ a. any_names_life a (more s ms))
+      → AreEnclosed n d w entries (λ a. names_life a s)
   of-first s ms e = narrower _ (λ a. any_names_life a (more s ms)) (λ a h. or-left _ _ h) e
 
-  pub of-others : (s : Tree) (ms : Trees) → AreEnclosed n d w entries (λ a. any_names_life a (more s ms)) → AreEnclosed n d w entries (λ a. any_names_life a ms)
+  pub of-others : (s : Tree) (ms : Trees) → AreEnclosed n d w entries (λ a. any_names_life a (more s ms))
+      → AreEnclosed n d w entries (λ a. any_names_life a ms)
   of-others s ms e = narrower _ (λ a. any_names_life a (more s ms)) (λ a h. or-right (names_life a s) _ h) e
 
   mutual
@@ -52,7 +65,13 @@ module _ (n d w : ℕ → ℕ) (entries : List Ends) where
     whole-positive (last ms) e = wholes-positive ms e
     whole-positive (at_least r ms) e = wholes-positive ms e
     whole-positive (exactly r ms) e = wholes-positive ms e
-    whole-positive (after s t) e = mul-pos (whole-positive t (narrower (λ a. names_life a t) (λ a. names_life a s || names_life a t) (λ a h. or-right (names_life a s) _ h) e)) (whole-positive s (narrower (λ a. names_life a s) (λ a. names_life a s || names_life a t) (λ a h. or-left _ _ h) e))
+    whole-positive (after s t) e =
+        mul-pos
+        (whole-positive t
+        (narrower (λ a. names_life a t) (λ a. names_life a s || names_life a t)
+        (λ a h. or-right (names_life a s) _ h) e))
+        (whole-positive s
+        (narrower (λ a. names_life a s) (λ a. names_life a s || names_life a t) (λ a h. or-left _ _ h) e))
 
     pub wholes-positive : (ms : Trees) → AreEnclosed n d w entries (λ a. any_names_life a ms) → 0 < whole_in d ms
     wholes-positive none e = omega arith
@@ -63,7 +82,8 @@ abbrev pub IsContrary : Ends → Ends → Type 0
 IsContrary i r = (n d w : ℕ) → 0 < d → EnclosesChance n d w i → EnclosesChance (d - n) d w r
 
 abbrev pub IsProduct : Ends → Ends → Ends → Type 0
-IsProduct i j r = (n m d e v w : ℕ) → EnclosesChance n d v i → EnclosesChance m e w j → EnclosesChance (n * m) (d * e) (v + w + 1) r
+IsProduct i j r =
+    (n m d e v w : ℕ) → EnclosesChance n d v i → EnclosesChance m e w j → EnclosesChance (n * m) (d * e) (v + w + 1) r
 
 module _ (entries : List Ends) (on : ℕ → Bool) where
   pub encloses-life : (i : ℕ) → EnclosesTree entries on (life i) (entry_at entries i)
@@ -74,31 +94,45 @@ module _ (entries : List Ends) (on : ℕ → Bool) where
   unfolding EnclosesTree
   encloses-term m i c n d w e = c
 
-  pub encloses-joint : (ms : Trees) (i : Ends) → EnclosesMembers entries ms (λ n d. weight_of_all n d on ms) i → EnclosesTree entries on (joint ms) i
+  pub encloses-joint : (ms : Trees) (i : Ends) → EnclosesMembers entries ms (λ n d. weight_of_all n d on ms) i
+      → EnclosesTree entries on (joint ms) i
   unfolding EnclosesTree EnclosesMembers
   encloses-joint ms i c = c
 
-  pub encloses-last : (ms : Trees) (i r : Ends) → EnclosesMembers entries ms (λ n d. weight_of_none n d on ms) i → IsContrary i r → EnclosesTree entries on (last ms) r
+  pub encloses-last : (ms : Trees) (i r : Ends) → EnclosesMembers entries ms (λ n d. weight_of_none n d on ms) i
+      → IsContrary i r → EnclosesTree entries on (last ms) r
   unfolding EnclosesTree EnclosesMembers
-  encloses-last ms i r c contrary n d w e = contrary (weight_of_none n d on ms) (whole_in d ms) (spread_in w ms) (wholes-positive n d w entries ms e) (c n d w e)
+  encloses-last ms i r c contrary n d w e =
+      contrary (weight_of_none n d on ms) (whole_in d ms) (spread_in w ms) (wholes-positive n d w entries ms e)
+      (c n d w e)
 
-  pub encloses-at_least : (r : ℕ) (ms : Trees) (i : Ends) → EnclosesMembers entries ms (λ n d. weight_of_count n d on (passes_at false r) ms) i → EnclosesTree entries on (at_least r ms) i
+  pub encloses-at_least : (r : ℕ) (ms : Trees) (i : Ends)
+      → EnclosesMembers entries ms (λ n d. weight_of_count n d on (passes_at false r) ms) i
+      → EnclosesTree entries on (at_least r ms) i
   unfolding EnclosesTree EnclosesMembers
   encloses-at_least r ms i c = c
 
-  pub encloses-exactly : (r : ℕ) (ms : Trees) (i : Ends) → EnclosesMembers entries ms (λ n d. weight_of_count n d on (passes_at true (r + 1)) ms) i → EnclosesTree entries on (exactly r ms) i
+  pub encloses-exactly : (r : ℕ) (ms : Trees) (i : Ends)
+      → EnclosesMembers entries ms (λ n d. weight_of_count n d on (passes_at true (r + 1)) ms) i
+      → EnclosesTree entries on (exactly r ms) i
   unfolding EnclosesTree EnclosesMembers
   encloses-exactly r ms i c n d w e = rw (one-more r) at (c n d w e)
     where
       one-more : (n : ℕ) → n + 1 ≡ suc n
       one-more n = omega arith
 
-  pub encloses-after : (s t : Tree) (i x y r : Ends) → EnclosesTree entries on s i → IsContrary i x → EnclosesTree entries on t y → IsProduct y x r → EnclosesTree entries on (after s t) r
+  pub encloses-after : (s t : Tree) (i x y r : Ends) → EnclosesTree entries on s i → IsContrary i x
+      → EnclosesTree entries on t y → IsProduct y x r → EnclosesTree entries on (after s t) r
   unfolding EnclosesTree
   encloses-after s t i x y r c contrary b product n d w e =
-      let first = narrower n d w entries (λ a. names_life a s) (λ a. names_life a s || names_life a t) (λ a h. or-left _ _ h) e in
-      let then = narrower n d w entries (λ a. names_life a t) (λ a. names_life a s || names_life a t) (λ a h. or-right (names_life a s) _ h) e in
-      product (weight_of n d on t) (whole_of d s - weight_of n d on s) (whole_of d t) (whole_of d s) (spread w t) (spread w s) (b n d w then)
+      let first =
+      narrower n d w entries (λ a. names_life a s) (λ a. names_life a s || names_life a t) (λ a h. or-left _ _ h)
+      e in
+      let then =
+      narrower n d w entries (λ a. names_life a t) (λ a. names_life a s || names_life a t)
+      (λ a h. or-right (names_life a s) _ h) e in
+      product (weight_of n d on t) (whole_of d s - weight_of n d on s) (whole_of d t) (whole_of d s) (spread w t)
+      (spread w s) (b n d w then)
       (contrary (weight_of n d on s) (whole_of d s) (spread w s) (whole-positive n d w entries s first) (c n d w first))
 
   -- of no members, and of one more
@@ -110,15 +144,21 @@ module _ (entries : List Ends) (on : ℕ → Bool) where
     within = record { low = rw e (omega (arith, ints)); high = rw f (omega (arith, ints)) };
   }
 
-  pub all-more : (s : Tree) (ms : Trees) (i j r : Ends) → EnclosesTree entries on s i → EnclosesMembers entries ms (λ n d. weight_of_all n d on ms) j → IsProduct i j r
+  pub all-more : (s : Tree) (ms : Trees) (i j r : Ends) → EnclosesTree entries on s i
+      → EnclosesMembers entries ms (λ n d. weight_of_all n d on ms) j → IsProduct i j r
       → EnclosesMembers entries (more s ms) (λ n d. weight_of_all n d on (more s ms)) r
   unfolding EnclosesTree EnclosesMembers
-  all-more s ms i j r a b product n d w e = product (weight_of n d on s) (weight_of_all n d on ms) (whole_of d s) (whole_in d ms) (spread w s) (spread_in w ms) (a n d w (of-first n d w entries s ms e)) (b n d w (of-others n d w entries s ms e))
+  all-more s ms i j r a b product n d w e =
+      product (weight_of n d on s) (weight_of_all n d on ms) (whole_of d s) (whole_in d ms) (spread w s)
+      (spread_in w ms) (a n d w (of-first n d w entries s ms e)) (b n d w (of-others n d w entries s ms e))
 
-  pub none-more : (s : Tree) (ms : Trees) (i x j r : Ends) → EnclosesTree entries on s i → IsContrary i x → EnclosesMembers entries ms (λ n d. weight_of_none n d on ms) j → IsProduct x j r
+  pub none-more : (s : Tree) (ms : Trees) (i x j r : Ends) → EnclosesTree entries on s i → IsContrary i x
+      → EnclosesMembers entries ms (λ n d. weight_of_none n d on ms) j → IsProduct x j r
       → EnclosesMembers entries (more s ms) (λ n d. weight_of_none n d on (more s ms)) r
   unfolding EnclosesTree EnclosesMembers
   none-more s ms i x j r a contrary b product n d w e =
-      product (whole_of d s - weight_of n d on s) (weight_of_none n d on ms) (whole_of d s) (whole_in d ms) (spread w s) (spread_in w ms)
-      (contrary (weight_of n d on s) (whole_of d s) (spread w s) (whole-positive n d w entries s (of-first n d w entries s ms e)) (a n d w (of-first n d w entries s ms e)))
+      product (whole_of d s - weight_of n d on s) (weight_of_none n d on ms) (whole_of d s) (whole_in d ms) (spread w s)
+      (spread_in w ms)
+      (contrary (weight_of n d on s) (whole_of d s) (spread w s)
+      (whole-positive n d w entries s (of-first n d w entries s ms e)) (a n d w (of-first n d w entries s ms e)))
       (b n d w (of-others n d w entries s ms e))

@@ -23,7 +23,8 @@ use Rattle.halo_chance.proofs.Parts.{drop-all, split-before}
 abbrev pub others_from : List Status → ℕ → ℕ → Trees
 others_from ms member i = cond (nat_le i member) (others_of (trees_in (drop i ms)) (member - i)) (trees_in (drop i ms))
 
-pub others-none : (ms : List Status) (member i : ℕ) → member < length ms → i ≡ length ms → others_from ms member i ≡ none
+pub others-none : (ms : List Status) (member i : ℕ) → member < length ms → i ≡ length ms
+    → others_from ms member i ≡ none
 others-none ms member i within e = rw above (drop-all ms i e)
   where
     above : nat_le i member ≡ false
@@ -38,12 +39,14 @@ others-all ms member = rw (first member, whole member) refl
     whole : (n : ℕ) → n - 0 ≡ n
     whole n = omega arith
 
-tail-at : (ms : List Status) (place : ℕ) → place < length ms → others_of (trees_in (drop place ms)) 0 ≡ trees_in (drop (suc place) ms)
+tail-at : (ms : List Status) (place : ℕ) → place < length ms
+    → others_of (trees_in (drop place ms)) 0 ≡ trees_in (drop (suc place) ms)
 tail-at [] place h = absurd (omega arith)
 tail-at (m ∷ ms) zero h = refl
 tail-at (m ∷ ms) (suc place) h = tail-at ms place (omega arith)
 
-pub others-at : (ms : List Status) (member i : ℕ) → 0 < i → i - 1 ≡ member → member < length ms → others_from ms member (i - 1) ≡ others_from ms member i
+pub others-at : (ms : List Status) (member i : ℕ) → 0 < i → i - 1 ≡ member → member < length ms
+    → others_from ms member (i - 1) ≡ others_from ms member i
 others-at ms member i h e within = rw (e, next, here, there, nothing, tail-at ms member within) refl
   where
     next : i ≡ suc member
@@ -58,10 +61,12 @@ others-at ms member i h e within = rw (e, next, here, there, nothing, tail-at ms
     nothing : member - member ≡ 0
     nothing = omega arith
 
-pub others-next : (ms : List Status) (member i : ℕ) (s : Status) → 0 < i → i - 1 ≢ member → slice_get ms (i - 1) ≡ Some s → others_from ms member (i - 1) ≡ more (tree_of s) (others_from ms member i)
+pub others-next : (ms : List Status) (member i : ℕ) (s : Status) → 0 < i → i - 1 ≢ member
+    → slice_get ms (i - 1) ≡ Some s → others_from ms member (i - 1) ≡ more (tree_of s) (others_from ms member i)
 others-next ms member i s h other at =
     ⊎_elim
-    (λ (l : member < i). rw (above i (omega (arith, other)), above (i - 1) (omega (arith, other))) (split-before ms i s h at))
+    (λ (l : member < i).
+    rw (above i (omega (arith, other)), above (i - 1) (omega (arith, other))) (split-before ms i s h at))
     (λ (l : i ≤ member). rw (below i l, below (i - 1) (omega arith), one-more l, split-before ms i s h at) refl)
     (cases_lt member i)
   where
@@ -75,14 +80,20 @@ others-next ms member i s h other at =
     one-more l = omega arith
 
 -- the member at a place
-pub member-tree : (ms : List Status) (place : ℕ) (s : Status) → slice_get ms place ≡ Some s → member_at (trees_in ms) place ≡ Some (tree_of s)
+pub member-tree : (ms : List Status) (place : ℕ) (s : Status) → slice_get ms place ≡ Some s
+    → member_at (trees_in ms) place ≡ Some (tree_of s)
 member-tree [] place s e = absurd (cc)
 member-tree (m ∷ ms) zero s e = let q : m ≡ s = grind arith in rw q refl
 member-tree (m ∷ ms) (suc place) s e = member-tree ms place s e
 
 -- the marked member and the others together
-pub encloses-waiting : (entries : List Ends) (on : ℕ → Bool) (mark : Mark) (ms : Trees) (s : Tree) (i j r : Ends) (place : ℕ) → member_at ms mark.member ≡ Some s → place ≡ suc (member_count ms - mark.rank)
-    → EnclosesTree entries on s i → EnclosesMembers entries (others_of ms mark.member) (λ n d. weight_of_count n d on (passes_at true place) (others_of ms mark.member)) j → IsProduct i j r
+pub encloses-waiting : (entries : List Ends) (on : ℕ → Bool) (mark : Mark) (ms : Trees) (s : Tree) (i j r : Ends)
+    (place : ℕ)
+    → member_at ms mark.member ≡ Some s → place ≡ suc (member_count ms - mark.rank)
+    → EnclosesTree entries on s i
+    → EnclosesMembers entries (others_of ms mark.member)
+    (λ n d. weight_of_count n d on (passes_at true place) (others_of ms mark.member)) j
+    → IsProduct i j r
     → EnclosesTree entries on (waiting (Some mark) (joint ms)) r
 unfolding EnclosesTree EnclosesMembers
 encloses-waiting entries on mark ms s i j r place found e marked others product = rw found go
@@ -96,8 +107,20 @@ encloses-waiting entries on mark ms s i j r place found e marked others product 
     once : (n : ℕ) → n * 1 ≡ n
     once n = omega arith
 
-    go : (n d w : ℕ → ℕ) → AreEnclosed n d w entries (λ a. names_life a (waiting_member mark ms (Some s))) → EnclosesChance (weight_of n d on (waiting_member mark ms (Some s))) (whole_of d (waiting_member mark ms (Some s))) (spread w (waiting_member mark ms (Some s))) r
-    go n d w enclosed = rw (once (count n d), once (whole_in d rest)) (chance_wider (weight_of n d on s * count n d) (whole_of d s * whole_in d rest) (spread w s + spread_in w rest + 1) (spread w (waiting_member mark ms (Some s))) r (omega arith)
+    go : (n d w : ℕ → ℕ) → AreEnclosed n d w entries (λ a. names_life a (waiting_member mark ms (Some s)))
+        → EnclosesChance (weight_of n d on (waiting_member mark ms (Some s)))
+        (whole_of d (waiting_member mark ms (Some s))) (spread w (waiting_member mark ms (Some s))) r
+    go n d w enclosed =
+        rw (once (count n d), once (whole_in d rest))
+        (chance_wider (weight_of n d on s * count n d) (whole_of d s * whole_in d rest)
+        (spread w s + spread_in w rest + 1) (spread w (waiting_member mark ms (Some s))) r (omega arith)
         (product (weight_of n d on s) (count n d) (whole_of d s) (whole_in d rest) (spread w s) (spread_in w rest)
-        (marked n d w (narrower n d w entries (λ a. names_life a s) (λ a. names_life a (waiting_member mark ms (Some s))) (λ a h. or-left _ _ h) enclosed))
-        (subst (λ p. EnclosesChance (weight_of_count n d on (passes_at true p) rest) (whole_in d rest) (spread_in w rest) j) e (others n d w (narrower n d w entries (λ a. any_names_life a rest) (λ a. names_life a (waiting_member mark ms (Some s))) (λ a h. or-right (names_life a s) _ (or-left _ _ h)) enclosed)))))
+        (marked n d w
+        (narrower n d w entries (λ a. names_life a s) (λ a. names_life a (waiting_member mark ms (Some s)))
+        (λ a h. or-left _ _ h) enclosed))
+        (subst
+        (λ p. EnclosesChance (weight_of_count n d on (passes_at true p) rest) (whole_in d rest) (spread_in w rest) j)
+        e
+        (others n d w
+        (narrower n d w entries (λ a. any_names_life a rest) (λ a. names_life a (waiting_member mark ms (Some s)))
+        (λ a h. or-right (names_life a s) _ (or-left _ _ h)) enclosed)))))

@@ -24,21 +24,27 @@ found-within (m ∷ ms) zero s e = omega arith
 found-within (m ∷ ms) (suc i) s e = omega (arith, found-within ms i s e)
 
 -- the member before a place, and those from the place on
-pub split-before : (ms : List Status) (i : ℕ) (s : Status) → 0 < i → slice_get ms (i - 1) ≡ Some s → trees_in (drop (i - 1) ms) ≡ more (tree_of s) (trees_in (drop i ms))
-split-before ms i s h at = let e : i - 1 + 1 ≡ i = omega arith in rw e at (split_at ms (i - 1) s (found-within ms (i - 1) s at) at)
+pub split-before : (ms : List Status) (i : ℕ) (s : Status) → 0 < i → slice_get ms (i - 1) ≡ Some s
+    → trees_in (drop (i - 1) ms) ≡ more (tree_of s) (trees_in (drop i ms))
+split-before ms i s h at =
+    let e : i - 1 + 1 ≡ i = omega arith in rw e at (split_at ms (i - 1) s (found-within ms (i - 1) s at) at)
 
 module _ (bound : ℕ) where
   pub named-life : (now : Status) (i : ℕ) → now ≡ Life i → NamesLivesBelow bound (tree_of now) → i < bound
   named-life now i e named = named i (rw (e, tree_of-Life i) (same i))
 
-  pub named-list : (now : Status) (ms : List Status) → HasMembers now ms → NamesLivesBelow bound (tree_of now) → AnyNamesLivesBelow bound (trees_in ms)
+  pub named-list : (now : Status) (ms : List Status) → HasMembers now ms → NamesLivesBelow bound (tree_of now)
+      → AnyNamesLivesBelow bound (trees_in ms)
   named-list now ms e named i h = named i (rw (names_life-list i now ms e) h)
 
-  pub named-member : (ms : List Status) (i : ℕ) (s : Status) → slice_get ms i ≡ Some s → AnyNamesLivesBelow bound (trees_in ms) → NamesLivesBelow bound (tree_of s)
+  pub named-member : (ms : List Status) (i : ℕ) (s : Status) → slice_get ms i ≡ Some s
+      → AnyNamesLivesBelow bound (trees_in ms) → NamesLivesBelow bound (tree_of s)
   named-member ms i s at named a h = named a (names_life-at ms i s at a h)
 
-  pub named-first : (now : Status) (s t : Box Status Global) → now ≡ After s t → NamesLivesBelow bound (tree_of now) → NamesLivesBelow bound (tree_of s.value)
+  pub named-first : (now : Status) (s t : Box Status Global) → now ≡ After s t → NamesLivesBelow bound (tree_of now)
+      → NamesLivesBelow bound (tree_of s.value)
   named-first now s t e named i h = named i (rw (e, tree_of-After s t) (or-left _ _ h))
 
-  pub named-then : (now : Status) (s t : Box Status Global) → now ≡ After s t → NamesLivesBelow bound (tree_of now) → NamesLivesBelow bound (tree_of t.value)
+  pub named-then : (now : Status) (s t : Box Status Global) → now ≡ After s t → NamesLivesBelow bound (tree_of now)
+      → NamesLivesBelow bound (tree_of t.value)
   named-then now s t e named i h = named i (rw (e, tree_of-After s t) (or-right (names_life i (tree_of s.value)) _ h))

@@ -33,20 +33,27 @@ mutual
   spread_in-le w none = omega arith
   spread_in-le w (more s ms) = omega (arith, spread-le w s, spread_in-le w ms)
 
-pub along-whole : (entries : List Ends) (on : ℕ → Bool) (s : Tree) (i : Ends) → EnclosesTree entries on s i → (n d w : ℕ → ℕ) → AreEnclosed n d w entries (λ a. names_life a s)
+pub along-whole : (entries : List Ends) (on : ℕ → Bool) (s : Tree) (i : Ends) → EnclosesTree entries on s i
+    → (n d w : ℕ → ℕ) → AreEnclosed n d w entries (λ a. names_life a s)
     → EnclosesChance (weight_of n d on s) (whole_of d s) (life_widths w s + nodes s) i
 unfolding EnclosesTree
-along-whole entries on s i c n d w e = chance_wider (weight_of n d on s) (whole_of d s) (spread w s) (life_widths w s + nodes s) i (omega (arith, spread-le w s)) (c n d w e)
+along-whole entries on s i c n d w e =
+    chance_wider (weight_of n d on s) (whole_of d s) (spread w s) (life_widths w s + nodes s) i
+    (omega (arith, spread-le w s)) (c n d w e)
 
-pub independent-whole : (entries : List Ends) (on : ℕ → Bool) (s : Tree) (i : Ends) → IsReadOnce s → EnclosesTree entries on s i → (n d w : ℕ → ℕ) → AreChances n d → AreEnclosed n d w entries (λ a. names_life a s)
-    → (count : ℕ) → NamesLivesBelow count s → Encloses i (existence_weight count n d on s) (product_over (numbers_from 0 count) d)
+pub independent-whole : (entries : List Ends) (on : ℕ → Bool) (s : Tree) (i : Ends) → IsReadOnce s
+    → EnclosesTree entries on s i → (n d w : ℕ → ℕ) → AreChances n d → AreEnclosed n d w entries (λ a. names_life a s)
+    → (count : ℕ) → NamesLivesBelow count s
+    → Encloses i (existence_weight count n d on s) (product_over (numbers_from 0 count) d)
 unfolding EnclosesTree
 independent-whole entries on s i once c n d w proper e count named =
     let law = existence-by-tree count n d proper on s once named in
     let whole = product_over (numbers_from 0 count) d in
-    let sides : existence_weight count n d on s *ℤ pos (whole_of d s) ≡ pos (weight_of n d on s) *ℤ pos whole = commuted (existence_weight count n d on s) (pos (whole_of d s)) ∙ law in
+    let sides : existence_weight count n d on s *ℤ pos (whole_of d s) ≡ pos (weight_of n d on s) *ℤ pos whole =
+    commuted (existence_weight count n d on s) (pos (whole_of d s)) ∙ law in
     encloses_reduced i (existence_weight count n d on s) whole (whole_of d s) (whole-positive n d w entries s e)
-    (rw (sides, mul_comm whole (whole_of d s)) (encloses_scaled i (pos (weight_of n d on s)) (whole_of d s) whole (c n d w e).encloses))
+    (rw (sides, mul_comm whole (whole_of d s))
+    (encloses_scaled i (pos (weight_of n d on s)) (whole_of d s) whole (c n d w e).encloses))
   where
     commuted : (a b : ℤ) → a *ℤ b ≡ b *ℤ a
     commuted a b = omega (arith, ints)

@@ -10,8 +10,8 @@ use Rattle.halo_model.specs.ByTree.{weight_of, whole_in, whole_of}
 abbrev pub entry_at : List Ends → ℕ → Ends
 entry_at entries i = get_or entries i (record { lo = pos 0; hi = pos 0 })
 
--- there are so many entries, and each of them is from 0 to 1
-pub record AreParts (count : ℕ) (entries : List Ends) : Type 0 where
+-- each of so many entries is a chance: from 0 to 1
+pub record EachIsChance (count : ℕ) (entries : List Ends) : Type 0 where
   pub room : count ≤ length entries
   pub each : (i : ℕ) → i < count → IsWithin (entry_at entries i) (pos 0) (pos fine)
 
@@ -35,7 +35,8 @@ abbrev mutual
   life_widths_in w none = 0
   life_widths_in w (more s ms) = life_widths w s + life_widths_in w ms
 
--- how wide the chance of a status may be: each member, and each side of one status after another, adds 1 for its rounding
+-- how wide the chance of a status may be: each member, and each side of one status after another,
+-- adds 1 for its rounding
 abbrev mutual
   pub spread : (ℕ → ℕ) → Tree → ℕ
   spread w (life i) = w i
@@ -52,8 +53,12 @@ abbrev mutual
 
 -- i encloses the chance of a status, for all chances of its lives that the entries enclose
 unfoldable pub EnclosesTree : List Ends → (ℕ → Bool) → Tree → Ends → Type 0
-EnclosesTree entries on s i = (n d w : ℕ → ℕ) → AreEnclosed n d w entries (λ a. names_life a s) → EnclosesChance (weight_of n d on s) (whole_of d s) (spread w s) i
+EnclosesTree entries on s i =
+    (n d w : ℕ → ℕ) → AreEnclosed n d w entries (λ a. names_life a s)
+    → EnclosesChance (weight_of n d on s) (whole_of d s) (spread w s) i
 
 -- i encloses a chance of some members, told by its weight
 unfoldable pub EnclosesMembers : List Ends → Trees → ((ℕ → ℕ) → (ℕ → ℕ) → ℕ) → Ends → Type 0
-EnclosesMembers entries ms weight i = (n d w : ℕ → ℕ) → AreEnclosed n d w entries (λ a. any_names_life a ms) → EnclosesChance (weight n d) (whole_in d ms) (spread_in w ms) i
+EnclosesMembers entries ms weight i =
+    (n d w : ℕ → ℕ) → AreEnclosed n d w entries (λ a. any_names_life a ms)
+    → EnclosesChance (weight n d) (whole_in d ms) (spread_in w ms) i

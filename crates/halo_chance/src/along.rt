@@ -1,3 +1,5 @@
+// The chance of a status along its tree: where no life stands in it twice, the chances of its
+// members multiply.
 ghost use Rattle.std.specs.Prelude.{◌≡◌, ℕ, ◌+◌, ◌-◌, ◌*◌, ◌^◌, ◌<◌, ◌≤◌, cond, length, pos};
 ghost use Rattle.halo_sums.specs.Sums.{numbers_from, product_over};
 ghost use Rattle.halo_num.specs.Ends.{fine, IsWithin};
@@ -11,7 +13,7 @@ ghost use Rattle.halo_status.specs.View.{is_on};
 ghost use Rattle.halo_model.specs.ByTree.{weight_of, weight_of_all, weight_of_count, weight_of_none, whole_of};
 ghost use Rattle.halo_model.specs.Independent.{existence_weight};
 ghost use Rattle.halo_chance.specs.Cost.{CostsMembers, CostsTree};
-ghost use Rattle.halo_chance.specs.Enclosed.{AreEnclosed, AreParts, EnclosesMembers, EnclosesTree, life_widths};
+ghost use Rattle.halo_chance.specs.Enclosed.{AreEnclosed, EachIsChance, EnclosesMembers, EnclosesTree, life_widths};
 ghost use Rattle.halo_chance.specs.Table.{passes_at};
 
 use crate::table::{PLACES, table_of_none, with_member};
@@ -20,7 +22,11 @@ use halo_status::{Members, Status, View};
 use std::sync::ledger::Ledger;
 
 /// The chance that a status exists at time `t` of the view, where life i is there with the chance
-/// `lives[i]`, from 0 to 1, whatever the others do. No life may stand in it twice.
+/// `lives[i]`, from 0 to 1, whatever the others do.
+///
+/// It is the chance of a status in which no life stands twice. Of any status it is what its tree
+/// gives if each place where a life stands were a life of its own. It is at most as wide as the
+/// entries of the lives together, as often as each stands, and a fine unit for each node.
 pub fn chance<L: Ledger>(
     body: &Status,
     lives: &[Ival],
@@ -28,14 +34,19 @@ pub fn chance<L: Ledger>(
     t: u16,
     steps: &mut Steps<L>,
 ) -> Ival
-    requires once { IsReadOnce (tree_of body.now) }
     requires named { NamesLivesBelow (length lives.now) (tree_of body.now) }
-    requires parts { AreParts (length lives.now) lives.now }
-    ensures independent { (n d w : ℕ → ℕ) → ((i : ℕ) → n i ≤ d i) →
-        AreEnclosed n d w lives.now (λ i. names_life i (tree_of body.now)) → (count : ℕ) → NamesLivesBelow count (tree_of body.now) →
-        Encloses result (existence_weight count n d (is_on view t) (tree_of body.now)) (product_over (numbers_from 0 count) d) }
-    ensures along { (n d w : ℕ → ℕ) → AreEnclosed n d w lives.now (λ i. names_life i (tree_of body.now)) →
-        EnclosesChance (weight_of n d (is_on view t) (tree_of body.now)) (whole_of d (tree_of body.now)) (life_widths w (tree_of body.now) + nodes (tree_of body.now)) result }
+    requires chances { EachIsChance (length lives.now) lives.now }
+    ensures independent { IsReadOnce (tree_of body.now) →
+        (n d w : ℕ → ℕ) → ((i : ℕ) → n i ≤ d i) →
+        AreEnclosed n d w lives.now (λ i. names_life i (tree_of body.now)) →
+        (count : ℕ) → NamesLivesBelow count (tree_of body.now) →
+        Encloses result (existence_weight count n d (is_on view t) (tree_of body.now))
+        (product_over (numbers_from 0 count) d) }
+    ensures along { (n d w : ℕ → ℕ) →
+        AreEnclosed n d w lives.now (λ i. names_life i (tree_of body.now)) →
+        EnclosesChance (weight_of n d (is_on view t) (tree_of body.now))
+        (whole_of d (tree_of body.now))
+        (life_widths w (tree_of body.now) + nodes (tree_of body.now)) result }
     ensures within { IsWithin result (pos 0) (pos fine) }
     ensures cost { steps.new ≤ steps.old + 2 * (nodes (tree_of body.now) + 1) ^ 2 }
 {
@@ -57,12 +68,14 @@ fn certain(holds: bool) -> Ival
 // The chance of the contrary.
 fn contrary(chance: Ival) -> Ival
     requires { IsWithin chance (pos 0) (pos fine) }
-    ensures chance { (n d w : ℕ) → 0 < d → EnclosesChance n d w chance → EnclosesChance (d - n) d w result }
+    ensures chance { (n d w : ℕ) → 0 < d → EnclosesChance n d w chance →
+        EnclosesChance (d - n) d w result }
     ensures within { IsWithin result (pos 0) (pos fine) }
 {
     Ival::exact(ONE_IN_FINE_UNITS).sub(chance)
 }
 
+// The chance along the tree, member by member.
 #[cycle(along)]
 #[tactic(auto, using(halo_status::proofs::Shapes::shapes))]
 pub(crate) fn along<L: Ledger>(
@@ -73,7 +86,7 @@ pub(crate) fn along<L: Ledger>(
     steps: &mut Steps<L>,
 ) -> Ival
     requires named { NamesLivesBelow (length lives.now) (tree_of body.now) }
-    requires parts { AreParts (length lives.now) lives.now }
+    requires chances { EachIsChance (length lives.now) lives.now }
     ensures chance { EnclosesTree lives.now (is_on view t) (tree_of body.now) result }
     ensures within { IsWithin result (pos 0) (pos fine) }
     ensures cost { CostsTree steps.old steps.new (nodes (tree_of body.now)) }
@@ -118,10 +131,12 @@ fn all_along<L: Ledger>(
     steps: &mut Steps<L>,
 ) -> Ival
     requires named { AnyNamesLivesBelow (length lives.now) (trees_in members.now) }
-    requires parts { AreParts (length lives.now) lives.now }
-    ensures chance { EnclosesMembers lives.now (trees_in members.now) (λ n d. weight_of_all n d (is_on view t) (trees_in members.now)) result }
+    requires chances { EachIsChance (length lives.now) lives.now }
+    ensures chance { EnclosesMembers lives.now (trees_in members.now) (λ n d.
+        weight_of_all n d (is_on view t) (trees_in members.now)) result }
     ensures within { IsWithin result (pos 0) (pos fine) }
-    ensures cost { CostsMembers steps.old steps.new (nodes_in (trees_in members.now)) (nodes_in (trees_in members.now)) }
+    ensures cost { CostsMembers steps.old steps.new (nodes_in (trees_in members.now))
+        (nodes_in (trees_in members.now)) }
 {
     let mut all = Ival::exact(ONE_IN_FINE_UNITS);
     for i in (0..members.len()).rev() {
@@ -141,10 +156,12 @@ fn none_along<L: Ledger>(
     steps: &mut Steps<L>,
 ) -> Ival
     requires named { AnyNamesLivesBelow (length lives.now) (trees_in members.now) }
-    requires parts { AreParts (length lives.now) lives.now }
-    ensures chance { EnclosesMembers lives.now (trees_in members.now) (λ n d. weight_of_none n d (is_on view t) (trees_in members.now)) result }
+    requires chances { EachIsChance (length lives.now) lives.now }
+    ensures chance { EnclosesMembers lives.now (trees_in members.now) (λ n d.
+        weight_of_none n d (is_on view t) (trees_in members.now)) result }
     ensures within { IsWithin result (pos 0) (pos fine) }
-    ensures cost { CostsMembers steps.old steps.new (nodes_in (trees_in members.now)) (nodes_in (trees_in members.now)) }
+    ensures cost { CostsMembers steps.old steps.new (nodes_in (trees_in members.now))
+        (nodes_in (trees_in members.now)) }
 {
     let mut none = Ival::exact(ONE_IN_FINE_UNITS);
     for i in (0..members.len()).rev() {
@@ -166,10 +183,12 @@ fn at_rank<L: Ledger>(
     steps: &mut Steps<L>,
 ) -> Ival
     requires named { AnyNamesLivesBelow (length lives.now) (trees_in members.now) }
-    requires parts { AreParts (length lives.now) lives.now }
-    ensures chance { EnclosesMembers lives.now (trees_in members.now) (λ n d. weight_of_count n d (is_on view t) (passes_at exact place) (trees_in members.now)) result }
+    requires chances { EachIsChance (length lives.now) lives.now }
+    ensures chance { EnclosesMembers lives.now (trees_in members.now) (λ n d.
+        weight_of_count n d (is_on view t) (passes_at exact place) (trees_in members.now)) result }
     ensures within { IsWithin result (pos 0) (pos fine) }
-    ensures cost { CostsMembers steps.old steps.new (nodes_in (trees_in members.now)) (nodes_in (trees_in members.now)) }
+    ensures cost { CostsMembers steps.old steps.new (nodes_in (trees_in members.now))
+        (nodes_in (trees_in members.now)) }
 {
     if place > members.len() + 1 {
         return Ival::exact(0);

@@ -1,10 +1,10 @@
-//! Laws of the definitions: functions that do nothing, whose contracts are the laws.
+// Laws of the definitions: functions that do nothing, whose contracts are the laws.
 
 ghost use Rattle.halo_chance.specs.Present.{ExistingPresent, LeavingPresent};
 
-/// What the products enclose that a value is added up from, over the common denominator of values: of
-/// a time, the discount times the chance along the tree; of a life's leaving in a year, the discount
-/// times the chance of the leaving times the loss of the status with that life.
+/// What the products enclose that a value is added up from, over the common denominator of values:
+/// of a time, the discount times the chance along the tree; of a life's leaving in a year, the
+/// discount times the chance of the leaving times the loss of the status with that life.
 pub fn present_values_go_along_the_tree()
     ensures existing { ExistingPresent }
     ensures leaving { LeavingPresent }

@@ -1,17 +1,16 @@
-//! What a status loses with a life: the chance that it exists with that life there, less the chance
-//! that it exists with that life not there.
+// What a status loses with a life: the chance that it exists with that life there, less the chance
+// that it exists with that life not there.
 
 ghost use Rattle.std.specs.Prelude.{◌≡◌, ℕ, ◌+◌, ◌-◌, ◌*◌, ◌^◌, ◌<◌, ◌≤◌, length, pos};
 ghost use Rattle.halo_num.specs.Ends.{fine, IsWithin};
 ghost use Rattle.halo_num.specs.Chance.{EnclosesChance};
 ghost use Rattle.halo_status.specs.Naming.{names_life, NamesLivesBelow};
 ghost use Rattle.halo_status.specs.Nodes.{nodes};
-ghost use Rattle.halo_status.specs.ReadOnce.{IsReadOnce};
 ghost use Rattle.halo_status.specs.StatusTree.{tree_of};
 ghost use Rattle.halo_status.specs.View.{is_on};
 ghost use Rattle.halo_model.specs.ByTree.{weight_of, whole_of};
 ghost use Rattle.halo_model.specs.PartsByTree.{put_for};
-ghost use Rattle.halo_chance.specs.Enclosed.{AreEnclosed, AreParts, life_widths};
+ghost use Rattle.halo_chance.specs.Enclosed.{AreEnclosed, EachIsChance, life_widths};
 ghost use Rattle.halo_chance.specs.Loss.{EnclosesLoss};
 
 use crate::along::chance;
@@ -20,8 +19,8 @@ use halo_status::{Status, View};
 use std::sync::ledger::Ledger;
 
 /// What a status loses at time `t` of the view with life `a`, where each other life i is there with
-/// the chance `lives[i]`, from 0 to 1. No life may stand in it twice. The entries are at return
-/// what they were.
+/// the chance `lives[i]`, from 0 to 1: its chance with that life there less its chance with that
+/// life not there, where that is not negative. The entries are at return what they were.
 pub fn loss<L: Ledger>(
     body: &Status,
     a: u8,
@@ -30,10 +29,9 @@ pub fn loss<L: Ledger>(
     t: u16,
     steps: &mut Steps<L>,
 ) -> Ival
-    requires once { IsReadOnce (tree_of body.now) }
     requires named { NamesLivesBelow (length lives.old) (tree_of body.now) }
     requires life { a < length lives.old }
-    requires parts { AreParts (length lives.old) lives.old }
+    requires chances { EachIsChance (length lives.old) lives.old }
     ensures loss { EnclosesLoss lives.old (is_on view t) a (tree_of body.now) result }
     ensures within { IsWithin result (pos 0) (pos fine) }
     ensures lives { lives.new ≡ lives.old }
@@ -53,7 +51,8 @@ pub fn loss<L: Ledger>(
 fn fall(from: Ival, to: Ival) -> Ival
     requires from { IsWithin from (pos 0) (pos fine) }
     requires to { IsWithin to (pos 0) (pos fine) }
-    ensures chance { (n m d v w : ℕ) → 0 < d → m ≤ n → EnclosesChance n d v from → EnclosesChance m d w to →
+    ensures chance { (n m d v w : ℕ) → 0 < d → m ≤ n →
+        EnclosesChance n d v from → EnclosesChance m d w to →
         EnclosesChance (n - m) d (v + w) result }
     ensures within { IsWithin result (pos 0) (pos fine) }
 {

@@ -9,6 +9,8 @@ pub mod laws;
 mod leaving;
 mod mark;
 mod table;
+#[cfg(test)]
+mod tests;
 
 pub use along::chance;
 pub use leaving::loss;

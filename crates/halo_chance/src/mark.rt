@@ -1,5 +1,5 @@
-//! The chance of the status on which an insurance on a marked member waits: the member exists, and exactly
-//! so many others that it fails at its rank if it fails next.
+// The chance of the status on which an insurance on a marked member waits: the member exists, and
+// exactly so many others that it fails at its rank if it fails next.
 
 ghost use Rattle.std.specs.Prelude.{◌≡◌, ℕ, ◌+◌, ◌-◌, ◌*◌, ◌^◌, ◌<◌, ◌≤◌, Some, length, pos, true};
 ghost use Rattle.halo_num.specs.Ends.{fine, IsWithin};
@@ -12,7 +12,7 @@ ghost use Rattle.halo_status.specs.View.{is_on};
 ghost use Rattle.halo_model.specs.ByTree.{weight_of_count};
 ghost use Rattle.halo_model.specs.PartsByTree.{others_of, waiting};
 ghost use Rattle.halo_chance.specs.Cost.{CostsMembers};
-ghost use Rattle.halo_chance.specs.Enclosed.{AreParts, EnclosesMembers, EnclosesTree};
+ghost use Rattle.halo_chance.specs.Enclosed.{EachIsChance, EnclosesMembers, EnclosesTree};
 ghost use Rattle.halo_chance.specs.Table.{passes_at};
 
 use crate::along::along;
@@ -21,8 +21,8 @@ use halo_num::{Ival, Steps};
 use halo_status::{Mark, Members, View};
 use std::sync::ledger::Ledger;
 
-/// The chance that the marked member exists, and of the others exactly so many that it fails at its rank
-/// if it fails next, where life i is there with the chance `lives[i]`, from 0 to 1.
+/// The chance that the marked member exists, and of the others exactly so many that it fails at its
+/// rank if it fails next, where life i is there with the chance `lives[i]`, from 0 to 1.
 pub fn chance_of_mark<L: Ledger>(
     members: &Members,
     mark: Mark,
@@ -34,8 +34,9 @@ pub fn chance_of_mark<L: Ledger>(
     requires member { mark.member < length members.now }
     requires rank { IsRank mark.rank (length members.now) }
     requires named { AnyNamesLivesBelow (length lives.now) (trees_in members.now) }
-    requires parts { AreParts (length lives.now) lives.now }
-    ensures chance { EnclosesTree lives.now (is_on view t) (waiting (Some mark) (joint (trees_in members.now))) result }
+    requires chances { EachIsChance (length lives.now) lives.now }
+    ensures chance { EnclosesTree lives.now (is_on view t)
+        (waiting (Some mark) (joint (trees_in members.now))) result }
     ensures within { IsWithin result (pos 0) (pos fine) }
     ensures cost { steps.new ≤ steps.old + 2 * (nodes (joint (trees_in members.now)) + 1) ^ 2 }
 {
@@ -59,10 +60,14 @@ fn others_at<L: Ledger>(
     requires member { member < length members.now }
     requires place { place ≤ length members.now }
     requires named { AnyNamesLivesBelow (length lives.now) (trees_in members.now) }
-    requires parts { AreParts (length lives.now) lives.now }
-    ensures chance { EnclosesMembers lives.now (others_of (trees_in members.now) member) (λ n d. weight_of_count n d (is_on view t) (passes_at true place) (others_of (trees_in members.now) member)) result }
+    requires chances { EachIsChance (length lives.now) lives.now }
+    ensures chance { EnclosesMembers lives.now (others_of (trees_in members.now) member) (λ n d.
+        weight_of_count n d (is_on view t) (passes_at true place)
+        (others_of (trees_in members.now) member))
+        result }
     ensures within { IsWithin result (pos 0) (pos fine) }
-    ensures cost { CostsMembers steps.old steps.new (nodes_in (others_of (trees_in members.now) member)) (nodes_in (trees_in members.now)) }
+    ensures cost { CostsMembers steps.old steps.new
+        (nodes_in (others_of (trees_in members.now) member)) (nodes_in (trees_in members.now)) }
 {
     let mut table = table_of_none(true);
     for i in (0..members.len()).rev() {

@@ -6,12 +6,14 @@ use Rattle.halo_chance.proofs.Whole.{along-whole, independent-whole}
 use Rattle.halo_chance.proofs.along.chance.Goals as goal
 
 pub returns-clause-independent : goal.returns-clause-independent
-returns-clause-independent g c = λ n d w proper enclosed count named.
-    independent-whole c.args.lives.now (is_on c.args.view c.args.t) (tree_of c.args.body.now) c.along.result c.requires.once c.along.ensures.chance n d w proper enclosed count named
+returns-clause-independent g c = λ once n d w proper enclosed count named.
+    independent-whole c.args.lives.now (is_on c.args.view c.args.t) (tree_of c.args.body.now) c.along.result
+    once c.along.ensures.chance n d w proper enclosed count named
 
 pub returns-clause-along : goal.returns-clause-along
 returns-clause-along g c = λ n d w enclosed.
-    along-whole c.args.lives.now (is_on c.args.view c.args.t) (tree_of c.args.body.now) c.along.result c.along.ensures.chance n d w enclosed
+    along-whole c.args.lives.now (is_on c.args.view c.args.t) (tree_of c.args.body.now) c.along.result
+    c.along.ensures.chance n d w enclosed
 
 pub returns-clause-cost : goal.returns-clause-cost
 returns-clause-cost g c = cost-whole _ _ _ c.along.ensures.cost
