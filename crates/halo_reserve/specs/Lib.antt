@@ -1,1 +1,2 @@
+-- The definitions that the contracts of reserves cite.
 pub mod Reserve

@@ -1,10 +1,9 @@
 //! Reserves: the value of what is still to be paid, less that of the premiums still to come.
 #![tactic(auto)]
 
-ghost use Rattle.std.specs.Prelude.{◌≡◌, ℕ, ◌+◌, ◌*◌, ◌^◌, ℤ, pos, ◌-ℤ◌, ◌*ℤ◌, ◌≤ℤ◌, neg_ℤ, IfNone, IfSome};
-ghost use Rattle.halo_num.specs.Ends.{fine, IsWithin, HasWidth};
-ghost use Rattle.halo_num.specs.Enclosure.{Encloses};
-ghost use Rattle.halo_reserve.specs.Reserve.{CanLess, IsLess, EnclosesLess, NarrowsLess};
+ghost use Rattle.std.specs.Prelude.{◌≡◌, ◌+◌, IfNone, IfSome};
+ghost use Rattle.halo_num.specs.Derived.{IsLessProduct};
+ghost use Rattle.halo_reserve.specs.Reserve.{CanTakeOff, HasTakenOff};
 
 use halo_num::{Ival, Steps};
 use std::sync::ledger::Ledger;
@@ -13,19 +12,20 @@ use std::sync::ledger::Ledger;
 mod tests;
 
 /// The reserve: `later`, the value of what is still to be paid, less the premium times `due`, the
-/// value of a premium of 1 at each time still to come; without a premium it is `later`. It counts
-/// one product where there is a premium.
+/// value of a premium of 1 at each time still to come. Without a premium it is `later`.
+///
+/// It encloses each difference of fractions in these, rounded outward by one fine unit at most, and
+/// counts one product where there is a premium.
 pub fn reserve<L: Ledger>(
     later: Ival,
     premium: Option<Ival>,
     due: Ival,
     steps: &mut Steps<L>,
 ) -> Ival
-    requires { IfSome premium (λ p. CanLess later p due) }
+    requires { IfSome premium (λ p. CanTakeOff later p due) }
     ensures without { IfNone premium (result ≡ later) }
-    ensures with { IfSome premium (λ p. IsLess later p due result) }
-    ensures encloses { IfSome premium (λ p. EnclosesLess later p due result) }
-    ensures narrow { IfSome premium (λ p. NarrowsLess later p due result) }
+    ensures with { IfSome premium (λ p. HasTakenOff later p due result) }
+    ensures difference { IfSome premium (λ p. IsLessProduct later p due result) }
     ensures cost_without { IfNone premium (steps.new ≡ steps.old) }
     ensures cost_with { IfSome premium (λ p. steps.new ≡ steps.old + 1) }
 {
@@ -37,10 +37,9 @@ pub fn reserve<L: Ledger>(
 
 /// What is still to be paid, less the premiums still to come. It counts one product.
 fn less_premiums<L: Ledger>(later: Ival, premium: Ival, due: Ival, steps: &mut Steps<L>) -> Ival
-    requires { CanLess later premium due }
-    ensures ends { IsLess later premium due result }
-    ensures encloses { EnclosesLess later premium due result }
-    ensures narrow { NarrowsLess later premium due result }
+    requires { CanTakeOff later premium due }
+    ensures ends { HasTakenOff later premium due result }
+    ensures difference { IsLessProduct later premium due result }
     ensures cost { steps.new ≡ steps.old + 1 }
 {
     let premiums = premium.mul(due, steps);

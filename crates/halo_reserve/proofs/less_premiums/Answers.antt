@@ -9,22 +9,27 @@ taken-off r a b e = rw e (omega (arith, ints))
 
 pub sub-requires-clause-o_in : goal.sub-requires-clause-o_in
 sub-requires-clause-o_in g c =
-    let bound = c.mul-premiums.ensures.bound (10 ^ 15) (10 ^ 3) c.requires.premium_in c.requires.due_in in
-    record { low = omega (arith, ints, c.mul-premiums.ensures.from); high = bound }
+    let premiums = c.mul-premiums.ensures in
+    record {
+      low = omega (arith, ints, premiums.from);
+      high = premiums.bound (10 ^ 15) (10 ^ 3) c.requires.premium_in c.requires.due_in;
+    }
 
 pub returns-clause-ends : goal.returns-clause-ends
-returns-clause-ends g c = record {
-  low = rw (taken-off c.sub.result.lo c.args.later.lo c.mul-premiums.result.hi c.sub.ensures.lo) c.mul-premiums.ensures.high;
-  high = rw (taken-off c.sub.result.hi c.args.later.hi c.mul-premiums.result.lo c.sub.ensures.hi) c.mul-premiums.ensures.low;
+returns-clause-ends g c =
+    let premiums = c.mul-premiums.result in
+    record {
+      low = rw (taken-off c.sub.result.lo c.args.later.lo premiums.hi c.sub.ensures.lo) c.mul-premiums.ensures.high;
+      high = rw (taken-off c.sub.result.hi c.args.later.hi premiums.lo c.sub.ensures.hi) c.mul-premiums.ensures.low;
+    }
+
+pub returns-clause-difference : goal.returns-clause-difference
+returns-clause-difference g c = record {
+  encloses = λ n m k d e later premium due.
+      c.sub.ensures.encloses (n *ℤ pos e) (m *ℤ k) (d * e) (encloses_scaled c.args.later n d e later)
+      (rw (mul_comm e d) at (c.mul-premiums.ensures.encloses m k e d premium due));
+  narrow = λ v w u t ones premium_in due_in later premium due.
+      let product = c.mul-premiums.ensures.width w u t ones premium_in due_in premium due in
+      let together : v + (w * ones + u * t + 1) ≡ v + t * u + ones * w + 1 = omega arith in
+      rw together at (c.sub.ensures.narrow v (w * ones + u * t + 1) later product);
 }
-
-pub returns-clause-encloses : goal.returns-clause-encloses
-returns-clause-encloses g c n m k d e later premium due =
-    c.sub.ensures.encloses (n *ℤ pos e) (m *ℤ k) (d * e) (encloses_scaled c.args.later n d e later)
-    (rw (mul_comm e d) at (c.mul-premiums.ensures.encloses m k e d premium due))
-
-pub returns-clause-narrow : goal.returns-clause-narrow
-returns-clause-narrow g c b w e t ones premium_in due_in later premium due =
-    let product = c.mul-premiums.ensures.width w e t ones premium_in due_in premium due in
-    let together : b + (w * ones + e * t + 1) ≡ b + t * e + ones * w + 1 = omega arith in
-    rw together at (c.sub.ensures.narrow b (w * ones + e * t + 1) later product)
