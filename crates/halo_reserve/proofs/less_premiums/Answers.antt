@@ -10,10 +10,8 @@ taken-off r a b e = rw e (omega (arith, ints))
 pub sub-requires-clause-o_in : goal.sub-requires-clause-o_in
 sub-requires-clause-o_in g c =
     let premiums = c.mul-premiums.ensures in
-    record {
-      low = omega (arith, ints, premiums.from);
-      high = premiums.bound (10 ^ 15) (10 ^ 3) c.requires.premium_in c.requires.due_in;
-    }
+    let bound = premiums.bound (10 ^ 15) (10 ^ 3) (omega (arith, ints)) (omega (arith, ints)) in
+    record { low = omega (arith, ints, premiums.from); high = omega (arith, ints, bound) }
 
 pub returns-clause-ends : goal.returns-clause-ends
 returns-clause-ends g c =

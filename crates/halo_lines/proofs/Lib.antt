@@ -1,0 +1,3 @@
+mod Room
+mod PayByPay
+mod ReserveLines

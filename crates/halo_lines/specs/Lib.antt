@@ -1,0 +1,3 @@
+-- The definitions that the contracts of the lines cite.
+pub mod PayLines
+pub mod Values
