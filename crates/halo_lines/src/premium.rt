@@ -12,6 +12,7 @@ use halo_num::{GREATEST_DIVISOR, GREATEST_FACTOR, Ival, Nano};
 use halo_premium::premium;
 
 /// A premium, and its two ends as they are printed.
+#[derive(Clone, Copy, Debug, PartialEq, Eq)]
 pub struct PremiumLine {
     pub premium: Ival,
     pub line: Nano,
