@@ -2,4 +2,4 @@ mod Multiples
 mod Discounted
 mod OneByOne
 mod Sums
-mod Towers
+mod SummedColumns

@@ -1,9 +1,8 @@
 -- Columns as lists of intervals, from the last age of a table down to its first.
 use Rattle.std.specs.Prelude.{◌≡◌, ⊤, ℕ, zero, suc, ◌+◌, ◌-◌, ◌<◌, List, get_or, length, pos, ◌+ℤ◌}
-use Rattle.halo_sums.specs.Sums.{numbers_from, sum_over}
 use Rattle.halo_num.specs.Ends.{Ends, HasWidth, IsWithin}
 use Rattle.halo_num.specs.Enclosure.{Encloses}
-use Rattle.halo_table.specs.DecrementTable.{TableFile, first_age_of, last_age_of, leavers_at}
+use Rattle.halo_table.specs.DecrementTable.{TableFile, first_age_of, last_age_of}
 use Rattle.halo_model.specs.Columns.{ColumnBasis, column_c, column_c_by, column_d, column_denominator, end_age, width_c, width_c_by, width_d}
 use Rattle.halo_columns.specs.declared.entry.Counted.{Counted}
 use Rattle.halo_columns.specs.declared.entry.Counted.TheVariants.{Survivors, Leavers, LeaversBy}
@@ -11,10 +10,6 @@ use Rattle.halo_columns.specs.declared.entry.Counted.TheVariants.{Survivors, Lea
 -- the basis of the columns of a table
 abbrev pub columns_of : (ℕ → ℕ) → (ℕ → ℕ) → TableFile → ℕ → ColumnBasis
 columns_of p q file table = record { p = p; q = q; file = file; table = table }
-
--- all who leave at an age
-abbrev pub leavers_at_age : TableFile → ℕ → ℕ → ℕ
-leavers_at_age file table age = sum_over (numbers_from 0 (length file.causes)) (λ j. leavers_at file table age j)
 
 -- the cause that is counted is one of the file
 abbrev pub IsKnown : TableFile → Counted → Type 0
@@ -43,10 +38,12 @@ abbrev pub zero_entry : Ends
 zero_entry = record { lo = pos 0; hi = pos 0 }
 
 -- a list has a column's entries, that of the last age first
-pub record AreEntries (c : ColumnBasis) (entry width : ℕ → ℕ) (most : ℕ) (column : List Ends) : Type 0 where
+pub record AreEntries (c : ColumnBasis) (entry width : ℕ → ℕ) (most : ℕ)
+    (column : List Ends) : Type 0 where
   pub full : length column + first_age_of c.file c.table ≡ end_age c
   pub each : (k : ℕ) → k < length column
-      → IsEntry c (entry (last_age_of c.file c.table - k)) (width (last_age_of c.file c.table - k)) most (get_or column k zero_entry)
+      → IsEntry c (entry (last_age_of c.file c.table - k)) (width (last_age_of c.file c.table - k))
+      most (get_or column k zero_entry)
 
 -- each entry lies from 0 to most
 pub record AreSized (most : ℕ) (column : List Ends) : Type 0 where
@@ -64,4 +61,5 @@ sum_before sums (suc k) = get_or sums k zero_entry
 -- each sum is the one before it and the entry in its place
 pub record AreSums (column sums : List Ends) : Type 0 where
   pub full : length sums ≡ length column
-  pub each : (k : ℕ) → k < length column → get_or sums k zero_entry ≡ both (sum_before sums k) (get_or column k zero_entry)
+  pub each : (k : ℕ) → k < length column
+      → get_or sums k zero_entry ≡ both (sum_before sums k) (get_or column k zero_entry)

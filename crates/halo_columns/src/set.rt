@@ -1,8 +1,8 @@
 // The columns of a table, and the entries of an age in them.
-ghost use Rattle.std.specs.Prelude.{◌≡◌, ◌≤◌, ◌<◌, ◌+◌, ◌*◌, ◌^◌, ℕ, IfOk, get_or, length};
+ghost use Rattle.std.specs.Prelude.{◌≡◌, ◌≤◌, ◌<◌, ◌+◌, ℕ, IfOk, get_or, length};
 ghost use Rattle.halo_interest.specs.Powers.{ArePowers};
 ghost use Rattle.halo_interest.specs.Rates.{rate_of};
-ghost use Rattle.halo_columns.specs.Entries.{AreEntries, IsKnown, columns_of, counted, counted_width, zero_entry};
+ghost use Rattle.halo_columns.specs.Entries.{IsKnown, columns_of, zero_entry};
 ghost use Rattle.halo_columns.specs.Set.{EnclosesColumns, entry_at, of_cause};
 ghost use Rattle.halo_columns.specs.Summed.{AreSummedByCause, IsSummedOnce, IsSummedTwice};
 
@@ -16,10 +16,13 @@ use std::alloc::Global;
 use std::marker::Model;
 use std::sync::ledger::Ledger;
 
-/// A column, its sums, and the sums of these.
+/// The greatest end of an entry of any column, in fine units: 10^17 ones.
+pub const GREATEST_ENTRY: u128 = 100_000_000_000_000_000_000_000_000_000_000_000;
+
+/// A column of discounted counts of lives, its sums, and the sums of these.
 #[derive(Drop)]
 struct SummedTwice {
-    lives: Vec<Ival>,
+    discounted: Vec<Ival>,
     sums: Vec<Ival>,
     sums_of_sums: Vec<Ival>,
 }
@@ -29,13 +32,17 @@ impl Model for SummedTwice {
 
     ghost Value = { SummedTwice };
 
-    ghost view = { λ t. record { lives = t.lives.items; sums = t.sums.items; sums_of_sums = t.sums_of_sums.items } };
+    ghost view = { λ t. record {
+        discounted = t.discounted.items;
+        sums = t.sums.items;
+        sums_of_sums = t.sums_of_sums.items;
+    } };
 }
 
-/// A column and its sums.
+/// A column of discounted counts of lives, and its sums.
 #[derive(Drop)]
 struct SummedOnce {
-    lives: Vec<Ival>,
+    discounted: Vec<Ival>,
     sums: Vec<Ival>,
 }
 
@@ -44,7 +51,7 @@ impl Model for SummedOnce {
 
     ghost Value = { SummedOnce };
 
-    ghost view = { λ t. record { lives = t.lives.items; sums = t.sums.items } };
+    ghost view = { λ t. record { discounted = t.discounted.items; sums = t.sums.items } };
 }
 
 /// The commutation columns of a table, by age: D, N and S of those who are alive, C, M and R of
@@ -62,16 +69,21 @@ impl Model for ColumnSet {
 
     ghost Value = { ColumnLists };
 
-    ghost view = { λ set. record { last_age = set.last_age; survivors = set.survivors; leavers = set.leavers; by_cause = set.by_cause.items } };
+    ghost view = { λ set. record {
+        last_age = set.last_age;
+        survivors = set.survivors;
+        leavers = set.leavers;
+        by_cause = set.by_cause.items;
+    } };
 }
 
 impl ColumnSet {
     /// D: the survivors at an age of the table, discounted from it to birth.
     pub fn d(&self, age: u16) -> Ival
         requires { age ≤ self.now.last_age }
-        ensures { result ≡ entry_at self.now self.now.survivors.lives age }
+        ensures { result ≡ entry_at self.now self.now.survivors.discounted age }
     {
-        at(&self.survivors.lives, self.last_age - age)
+        at(&self.survivors.discounted, self.last_age - age)
     }
 
     /// N: the sum of D from an age of the table on.
@@ -93,9 +105,9 @@ impl ColumnSet {
     /// C: those who leave at an age of the table, discounted from the end of the year to birth.
     pub fn c(&self, age: u16) -> Ival
         requires { age ≤ self.now.last_age }
-        ensures { result ≡ entry_at self.now self.now.leavers.lives age }
+        ensures { result ≡ entry_at self.now self.now.leavers.discounted age }
     {
-        at(&self.leavers.lives, self.last_age - age)
+        at(&self.leavers.discounted, self.last_age - age)
     }
 
     /// M: the sum of C from an age of the table on.
@@ -118,10 +130,10 @@ impl ColumnSet {
     pub fn c_by(&self, age: u16, cause: u8) -> Ival
         requires age { age ≤ self.now.last_age }
         requires cause { cause < length self.now.by_cause }
-        ensures { result ≡ entry_at self.now (of_cause self.now cause).lives age }
+        ensures { result ≡ entry_at self.now (of_cause self.now cause).discounted age }
     {
         at(
-            &self.by_cause[usize::from(cause)].lives,
+            &self.by_cause[usize::from(cause)].discounted,
             self.last_age - age,
         )
     }
@@ -147,7 +159,11 @@ fn at(column: &[Ival], younger: u16) -> Ival
 }
 
 /// The commutation columns of a table at an interest, with year k of interest from age k to age
-/// k + 1. The counter is raised by at most 200.
+/// k + 1.
+///
+/// Each entry encloses its column at that age. Those of D and C are 3 fine units wide at most for
+/// each year of discount and each life that is counted, and sums are as wide as what they add up.
+/// The counter is raised by at most 200.
 pub fn columns<L: Ledger>(
     alloc: Global,
     tables: &Tables,
@@ -156,8 +172,8 @@ pub fn columns<L: Ledger>(
     steps: &mut Steps<L>,
 ) -> Result<ColumnSet, Memory>
     requires { table < length tables.now.tables }
-    ensures columns { IfOk result (λ set.
-        EnclosesColumns (columns_of (λ k. (rate_of interest.now k).p) (λ k. (rate_of interest.now k).q) tables.now table) set) }
+    ensures columns { IfOk result (λ set. EnclosesColumns (columns_of
+        (λ k. (rate_of interest.now k).p) (λ k. (rate_of interest.now k).q) tables.now table) set) }
     ensures cost { steps.new ≤ steps.old + 200 }
 {
     let powers = interest.powers(steps);
@@ -199,11 +215,11 @@ fn summed_twice(
     ensures { IfOk result (λ t. (p q : ℕ → ℕ) → ArePowers q (λ k. p k + q k) 0 powers.now →
         IsSummedTwice (columns_of p q tables.now table) what t) }
 {
-    let lives = column(alloc, tables, table, powers, what)?;
-    let sums = running_sums(alloc, &lives)?;
+    let discounted = column(alloc, tables, table, powers, what)?;
+    let sums = running_sums(alloc, &discounted)?;
     let sums_of_sums = running_sums(alloc, &sums)?;
     Ok(SummedTwice {
-        lives,
+        discounted,
         sums,
         sums_of_sums,
     })
@@ -240,7 +256,7 @@ fn summed_once(
     ensures { IfOk result (λ t. (p q : ℕ → ℕ) → ArePowers q (λ k. p k + q k) 0 powers.now →
         IsSummedOnce (columns_of p q tables.now table) cause t) }
 {
-    let lives = column(alloc, tables, table, powers, Counted::LeaversBy(cause))?;
-    let sums = running_sums(alloc, &lives)?;
-    Ok(SummedOnce { lives, sums })
+    let discounted = column(alloc, tables, table, powers, Counted::LeaversBy(cause))?;
+    let sums = running_sums(alloc, &discounted)?;
+    Ok(SummedOnce { discounted, sums })
 }

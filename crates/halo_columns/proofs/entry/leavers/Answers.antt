@@ -3,4 +3,5 @@ use Rattle.halo_columns.proofs.entry.leavers.Goals as goal
 
 pub returns-clause-count : goal.returns-clause-count
 returns-clause-count c =
-    rw (c.survivors.ensures.count, c.survivors-2.ensures.count) (leavers-are c.args.tables.now c.survivors.ensures.sound c.args.table c.args.age c.requires)
+    rw (c.survivors.ensures.count, c.survivors-2.ensures.count)
+        (leavers-are c.args.tables.now c.survivors.ensures.sound c.args.table c.args.age c.requires)
