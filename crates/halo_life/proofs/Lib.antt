@@ -1,5 +1,5 @@
 pub mod Sums
 pub mod Subsets
-pub mod Doubling
+pub mod Means
 pub mod Sure
 pub mod Rows

@@ -2,4 +2,6 @@ pub mod Lists
 pub mod Products
 pub mod Total
 pub mod PlainGroup
+pub mod YearOfSets
+pub mod YearOfLives
 pub mod Basis

@@ -1,36 +1,61 @@
 -- Some lives at a time, of which some are alive.
-use Rattle.std.specs.Prelude.{◌≡◌, ℕ, ◌+◌, ◌<◌, ◌≤◌, true, cond, List, length}
+use Rattle.std.specs.Prelude.{◌≡◌, ℕ, ◌+◌, ◌<◌, ◌≤◌, Bool, true, false, cond, List, length}
 use Rattle.halo_sums.specs.Masks.{has_bit}
+use Rattle.halo_interest.specs.declared.powers.TheConstants.{LAST_TIME}
 use Rattle.halo_table.specs.DecrementTable.{TableFile, survivors_at}
 use Rattle.halo_table.specs.Sound.{IsSound}
 use Rattle.halo_table.specs.declared.lives.Life.{Life}
-use Rattle.halo_model.specs.FromTables.{HasRow}
+use Rattle.halo_model.specs.FromTables.{HasRow, life_of}
 use Rattle.halo_model.specs.Horizon.{life_at}
+use Rattle.halo_model.specs.Life.{leavers_by}
+use Rattle.halo_model.specs.Order.{Ties, all_orders, declared_order}
+use Rattle.halo_life.specs.declared.group.TheConstants.{MOST_LIVES}
 
--- the tables, the lives in the declared order, a time, and the mask of those that are alive then
+-- the tables, the lives in the declared order, a time, the mask of those that are alive then, and the
+-- rule for those who leave in one year
 pub record PlainGroup : Type 0 where
   pub file : TableFile
   pub lives : List Life
   pub start : ℕ
   pub alive : ℕ
+  pub ties : Ties
 
--- n lives, 1 to 12, at a time of at most 200; each has a row at its age, and each that is alive at its age then
+-- whether all orders are taken, each with equal chance
+abbrev pub is_even : Ties → Bool
+is_even declared_order = false
+is_even all_orders = true
+
+-- the rule for ties, by whether it is the even one
+abbrev pub ties_of : Bool → Ties
+ties_of even = cond even all_orders declared_order
+
+-- n lives at a time; each has a row at its age, and each that is alive at its age then
 pub record IsGroup (n : ℕ) (g : PlainGroup) : Type 0 where
   pub some : 1 ≤ n
-  pub few : n ≤ 12
+  pub few : n ≤ MOST_LIVES
   pub count : length g.lives ≡ n
-  pub time : g.start ≤ 200
+  pub time : g.start ≤ LAST_TIME
   pub sound : IsSound g.file
   pub rows : (i : ℕ) → i < n → HasRow g.file (life_at g.lives i).table (life_at g.lives i).age
-  pub alive_rows : (i : ℕ) → i < n → has_bit g.alive i ≡ true → HasRow g.file (life_at g.lives i).table ((life_at g.lives i).age + g.start)
+  pub alive_rows : (i : ℕ) → i < n → has_bit g.alive i ≡ true
+      → HasRow g.file (life_at g.lives i).table ((life_at g.lives i).age + g.start)
 
--- the survivors of a life at a time
-abbrev pub survivors_of : PlainGroup → ℕ → ℕ → ℕ
-survivors_of g t i = survivors_at g.file (life_at g.lives i).table ((life_at g.lives i).age + t)
+-- the survivors of a life at a time: l_(x+t)
+abbrev pub survivors_in : PlainGroup → ℕ → ℕ → ℕ
+survivors_in g t i = survivors_at g.file (life_at g.lives i).table ((life_at g.lives i).age + t)
 
--- the chance that a life is alive at time t: its survivors then over those at the start, and 0 / 1 for a life that is not alive at the start
-abbrev pub surviving : PlainGroup → ℕ → ℕ → ℕ
-surviving g t i = cond (has_bit g.alive i) (survivors_of g t i) 0
+-- those who leave as a life does in year k by one of some causes: d_(x+k)
+abbrev pub leavers_in : PlainGroup → (ℕ → Bool) → ℕ → ℕ → ℕ
+leavers_in g causes k i =
+    leavers_by causes (life_of g.file (life_at g.lives i).table (life_at g.lives i).age) k
 
+-- the chances of a life are told in parts of its survivors at the group's time, and of 1 for a life that is not alive then: that it
+-- is alive at time t, and that it leaves in year k
 abbrev pub started : PlainGroup → ℕ → ℕ
-started g i = cond (has_bit g.alive i) (survivors_of g g.start i) 1
+started g i = cond (has_bit g.alive i) (survivors_in g g.start i) 1
+
+abbrev pub surviving : PlainGroup → ℕ → ℕ → ℕ
+surviving g t i = cond (has_bit g.alive i) (survivors_in g t i) 0
+
+abbrev pub leaving : PlainGroup → (ℕ → Bool) → ℕ → ℕ → ℕ
+leaving g causes k i = cond (has_bit g.alive i) (leavers_in g causes k i) 0

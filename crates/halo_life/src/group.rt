@@ -1,52 +1,72 @@
 // Some lives of a contract at a time.
-ghost use Rattle.std.specs.Prelude.{◌≡◌, ℕ, ◌+◌, ◌*◌, ◌^◌, ◌<◌, ◌≤◌, ◌↔◌, length, nat_lt, pos, true, false};
-ghost use Rattle.halo_sums.specs.Masks.{bits, has_bit};
-ghost use Rattle.halo_sums.specs.Sets.{size_of};
-ghost use Rattle.halo_num.specs.Ends.{fine};
-ghost use Rattle.halo_num.specs.Chance.{EnclosesChance};
+ghost use Rattle.std.specs.Prelude.{◌≡◌, ℕ, ◌+◌, ◌<◌, ◌≤◌, cond, length, nat_lt, true};
+ghost use Rattle.halo_sums.specs.Masks.{has_bit};
+ghost use Rattle.halo_table.specs.DecrementTable.{leavers_at};
+ghost use Rattle.halo_model.specs.Chance.{asked};
 ghost use Rattle.halo_model.specs.FromTables.{HasRow};
 ghost use Rattle.halo_model.specs.Horizon.{life_at};
-ghost use Rattle.halo_life.specs.Lists.{nothing};
-ghost use Rattle.halo_life.specs.PlainGroup.{IsGroup, started, surviving, survivors_of};
-ghost use Rattle.halo_life.specs.Products.{EncloseProducts};
+ghost use Rattle.halo_model.specs.Order.{all_orders, declared_order};
+ghost use Rattle.halo_life.specs.PlainGroup.{IsGroup, is_even, leavers_in, survivors_in};
 
-use crate::work::Work;
 use halo_interest::LAST_TIME;
-use halo_num::{Ival, Steps};
 use halo_table::{Life, Tables};
 use std::marker::Model;
-use std::sync::ledger::Ledger;
 
-/// N lives of some tables at a time, of which a set is alive then.
+/// The greatest number of lives of a group.
+pub const MOST_LIVES: usize = 12;
+
+/// N lives of some tables at a time, of which a set is alive then, and the rule for the order in which
+/// those leave that leave in one year.
 #[derive(Drop)]
 pub struct Group<'a, const N: usize> {
     tables: &'a Tables,
     lives: &'a [Life],
     start: u16,
     alive: u16,
+    even: bool,
 }
 
 impl<'a, const N: usize> Model for Group<'a, N> {
-    ghost use Rattle.halo_life.specs.PlainGroup.{PlainGroup, IsGroup};
+    ghost use Rattle.halo_life.specs.PlainGroup.{PlainGroup, IsGroup, ties_of};
 
     ghost Value = { PlainGroup };
 
-    ghost view = { λ g. record { file = g.tables.now; lives = g.lives.now; start = g.start; alive = g.alive } };
+    ghost view = { λ g. record {
+      file = g.tables.now;
+      lives = g.lives.now;
+      start = g.start;
+      alive = g.alive;
+      ties = ties_of g.even;
+    } };
 
-    ghost invariant = { λ g. IsGroup N (record { file = g.tables.now; lives = g.lives.now; start = g.start; alive = g.alive }) };
+    ghost invariant = { λ g. IsGroup N (record {
+      file = g.tables.now;
+      lives = g.lives.now;
+      start = g.start;
+      alive = g.alive;
+      ties = ties_of g.even;
+    }) };
 }
 
 impl<'a, const N: usize> Group<'a, N> {
-    /// N lives at time `start`, at which those of the set `alive` are alive.
+    /// N lives at time `start`, at which those of the set `alive` are alive. Those who leave in one year
+    /// leave in the declared order.
     pub fn new(tables: &'a Tables, lives: &'a [Life], start: u16, alive: u16) -> Group<'a, N>
         requires some { 1 ≤ N }
-        requires few { N ≤ 12 }
+        requires few { N ≤ MOST_LIVES }
         requires count { length lives.now ≡ N }
         requires time { start ≤ LAST_TIME }
-        requires rows { (i : ℕ) → i < N → HasRow tables.now (life_at lives.now i).table (life_at lives.now i).age }
+        requires rows { (i : ℕ) → i < N →
+            HasRow tables.now (life_at lives.now i).table (life_at lives.now i).age }
         requires alive_rows { (i : ℕ) → i < N → has_bit alive i ≡ true →
             HasRow tables.now (life_at lives.now i).table ((life_at lives.now i).age + start) }
-        ensures { result ≡ record { file = tables.now; lives = lives.now; start = start; alive = alive } }
+        ensures { result ≡ record {
+          file = tables.now;
+          lives = lives.now;
+          start = start;
+          alive = alive;
+          ties = declared_order;
+        } }
     {
         // The proof sees here that the tables are sound.
         let first = lives[0];
@@ -56,7 +76,29 @@ impl<'a, const N: usize> Group<'a, N> {
             lives,
             start,
             alive,
+            even: false,
         }
+    }
+
+    /// The same group, where those who leave in one year leave in each order with equal chance.
+    pub fn even(self) -> Group<'a, N>
+        ensures { result ≡ record self.entry { ties = all_orders } }
+    {
+        Group {
+            tables: self.tables,
+            lives: self.lives,
+            start: self.start,
+            alive: self.alive,
+            even: true,
+        }
+    }
+
+    /// Whether those who leave in one year leave in each order with equal chance.
+    pub fn is_even(&self) -> bool
+        ensures value { result ≡ is_even self.now.ties }
+        ensures group { IsGroup N self.now }
+    {
+        self.even
     }
 
     /// The tables of the lives.
@@ -91,26 +133,31 @@ impl<'a, const N: usize> Group<'a, N> {
         self.alive
     }
 
-    /// The same lives at another time, with all of those alive that have a row at their age then.
+    /// The same lives at another time, with all of those alive that have a row at their age then. The
+    /// rule for those who leave in one year stays.
     pub fn at(&self, start: u16) -> Group<'a, N>
         requires { start ≤ LAST_TIME }
         ensures file { result.file ≡ self.now.file }
         ensures lives { result.lives ≡ self.now.lives }
         ensures start { result.start ≡ start }
-        ensures alive { (i : ℕ) → i < N → has_bit result.alive i ≡ nat_lt 0 (survivors_of self.now start i) }
+        ensures alive { (i : ℕ) → i < N →
+            has_bit result.alive i ≡ nat_lt 0 (survivors_in self.now start i) }
+        ensures ties { result.ties ≡ self.now.ties }
     {
         Group {
             tables: self.tables,
             lives: self.lives,
             start,
             alive: self.with_row(start),
+            even: self.even,
         }
     }
 
     // The set of the lives that have a row at their age at a time.
     fn with_row(&self, t: u16) -> u16
         requires { t ≤ LAST_TIME }
-        ensures rows { (i : ℕ) → i < N → has_bit result i ≡ nat_lt 0 (survivors_of self.now t i) }
+        ensures rows { (i : ℕ) → i < N →
+            has_bit result i ≡ nat_lt 0 (survivors_in self.now t i) }
         ensures group { IsGroup N self.now }
     {
         let mut alive = 0;
@@ -123,7 +170,7 @@ impl<'a, const N: usize> Group<'a, N> {
     }
 
     // How many lives there are.
-    fn count(&self) -> u8
+    pub(crate) fn count(&self) -> u8
         ensures value { result ≡ N }
         ensures group { IsGroup N self.now }
     {
@@ -132,14 +179,16 @@ impl<'a, const N: usize> Group<'a, N> {
     }
 
     // The survivors of a life at a time.
-    fn survivors(&self, i: u8, t: u16) -> u64
+    pub(crate) fn survivors(&self, i: u8, t: u16) -> u64
         requires life { i < N }
         requires time { t ≤ LAST_TIME }
-        ensures value { result ≡ survivors_of self.now t i }
+        ensures value { result ≡ survivors_in self.now t i }
         ensures small { result ≤ 1000000000000 }
-        ensures falling { (earlier : ℕ) → earlier ≤ t → result ≤ survivors_of self.now earlier i }
-        ensures row { 1 ≤ result → HasRow self.now.file (life_at self.now.lives i).table ((life_at self.now.lives i).age + t) }
-        ensures some { HasRow self.now.file (life_at self.now.lives i).table ((life_at self.now.lives i).age + t) → 1 ≤ result }
+        ensures falling { (earlier : ℕ) → earlier ≤ t → result ≤ survivors_in self.now earlier i }
+        ensures row { 1 ≤ result →
+            HasRow self.now.file (life_at self.now.lives i).table ((life_at self.now.lives i).age + t) }
+        ensures some { HasRow self.now.file (life_at self.now.lives i).table ((life_at self.now.lives i).age + t) →
+            1 ≤ result }
         ensures group { IsGroup N self.now }
     {
         let life = self.lives[i as usize];
@@ -148,49 +197,51 @@ impl<'a, const N: usize> Group<'a, N> {
         self.tables.survivors(life.table, life.age + t)
     }
 
-    /// The probability that life `i` is alive at time `t`, at most 1 fine unit wide: exactly 0 for a
-    /// life that is not alive at the group's time, and exactly 1 at that time for one that is.
-    pub fn survive(&self, i: u8, t: u16) -> Ival
+    // Those who leave as a life does in a year by one of some causes, all where there are none.
+    pub(crate) fn leavers(&self, i: u8, k: u16, causes: Option<u8>) -> u64
         requires life { i < N }
-        requires from { self.now.start ≤ t }
-        requires time { t ≤ LAST_TIME }
-        ensures chance { EnclosesChance (surviving self.now t i) (started self.now i) 1 result }
-        ensures gone { has_bit self.now.alive i ≡ false → result ≡ nothing }
-        ensures sure { has_bit self.now.alive i ≡ true → t ≡ self.now.start → result ≡ record { lo = pos fine; hi = pos fine } }
+        requires time { k ≤ LAST_TIME }
+        ensures value { result ≡ leavers_in self.now (asked causes) k i }
+        ensures part { result + survivors_in self.now (k + 1) i ≤ survivors_in self.now k i }
+        ensures small { result ≤ 10000000000000 }
+        ensures group { IsGroup N self.now }
     {
-        if !has_bit(self.alive, i) {
-            return Ival::exact(0);
+        let mut leavers = 0;
+        for cause in 0..self.tables.causes() {
+            leavers += self.leavers_if_asked(i, k, causes, cause);
         }
-        Ival::ratio(self.survivors(i, t), self.survivors(i, self.start))
+        leavers
     }
 
-    /// For each set of lives the probability that all of them are alive at time `t`, at most 2N fine
-    /// units wide, in the entries `sets`. The counter is raised by less than M, and nothing else changes.
-    pub fn products<const M: usize, L: Ledger>(
-        &self,
-        t: u16,
-        into: &mut Work<M>,
-        steps: &mut Steps<L>,
-    )
-        requires sets { M ≡ 2 ^ N }
-        requires from { self.now.start ≤ t }
-        requires time { t ≤ LAST_TIME }
-        ensures chances { EncloseProducts N (surviving self.now t) (started self.now) N into.new.sets }
-        ensures plus { into.new.plus ≡ into.old.plus }
-        ensures minus { into.new.minus ≡ into.old.minus }
-        ensures cost { steps.new + 1 ≡ steps.old + M }
+    // Those who leave as a life does in a year by a cause, if it is asked for.
+    fn leavers_if_asked(&self, i: u8, k: u16, causes: Option<u8>, cause: u8) -> u64
+        requires life { i < N }
+        requires time { k ≤ LAST_TIME }
+        requires known { cause < length self.now.file.causes }
+        ensures count { result ≡ cond (asked causes cause)
+            (leavers_at self.now.file (life_at self.now.lives i).table
+            ((life_at self.now.lives i).age + k) cause)
+            0 }
+        ensures small { result ≤ 1000000000000 }
     {
-        into.begin();
-        for i in 0..self.count() {
-            into.add_life(i, self.survive(i, t), steps);
+        let life = self.lives[i as usize];
+        let _last_age = self.tables.last_age(life.table);
+        let _causes = self.tables.causes();
+        if is_asked(causes, cause) {
+            self.tables.leavers(life.table, life.age + k, cause)
+        } else {
+            0
         }
     }
 }
 
-// Whether the number `i` is in the set of a mask.
-fn has_bit(mask: u16, i: u8) -> bool
-    requires { i < 16 }
-    ensures { result ≡ has_bit mask i }
+// Whether a cause is asked for: one of a set, or any where there is none.
+fn is_asked(causes: Option<u8>, cause: u8) -> bool
+    requires { cause < 8 }
+    ensures { result ≡ asked causes cause }
 {
-    mask >> i & 1 == 1
+    match causes {
+        None => true,
+        Some(causes) => causes >> cause & 1 == 1,
+    }
 }

@@ -1,21 +1,22 @@
 // Room to work on all sets of lives at once.
-ghost use Rattle.std.specs.Prelude.{◌≡◌, ◌≢◌, ℕ, ◌+◌, ◌*◌, ◌^◌, ◌<◌, ◌≤◌, IfOk, neg_ℤ, pos};
-ghost use Rattle.halo_num.specs.Chance.{EnclosesChance};
-ghost use Rattle.halo_num.specs.Ends.{IsWithin, fine};
+ghost use Rattle.std.specs.Prelude.{◌≡◌, ◌≢◌, ℕ, ◌^◌, ◌<◌, ◌≤◌, IfOk, neg_ℤ, pos};
+ghost use Rattle.halo_num.specs.Ends.{IsWithin};
 ghost use Rattle.halo_life.specs.Lists.{entry, nothing};
 ghost use Rattle.halo_life.specs.Total.{AreModest, share, total_of};
 
-use crate::memory::Memory;
-use halo_num::{Ival, ONE_IN_FINE_UNITS, Steps};
+use crate::Memory;
+use crate::group::MOST_LIVES;
+use halo_num::Ival;
 use std::alloc::Global;
 use std::marker::Model;
-use std::sync::ledger::Ledger;
 
-/// Three lists of M intervals, one entry for each set of lives: chances of the sets (`sets`), and two
-/// values of each set, `plus` and `minus`, of which the second is taken off the first.
+/// Four lists of M intervals, one entry for each set of lives: the chances of a year, `survivals` and
+/// `leavings`, and two values of each set, `plus` and `minus`, of which the second is taken off the
+/// first.
 #[derive(Drop)]
 pub struct Work<const M: usize> {
-    sets: Vec<Ival>,
+    survivals: Vec<Ival>,
+    leavings: Vec<Ival>,
     plus: Vec<Ival>,
     minus: Vec<Ival>,
 }
@@ -25,32 +26,50 @@ impl<const M: usize> Model for Work<M> {
 
     ghost Value = { Lists };
 
-    ghost view = { λ w. record { sets = w.sets.items; plus = w.plus.items; minus = w.minus.items } };
+    ghost view = { λ w. record {
+      survivals = w.survivals.items;
+      leavings = w.leavings.items;
+      plus = w.plus.items;
+      minus = w.minus.items;
+    } };
 
-    ghost invariant = { λ w. HasEntries M (record { sets = w.sets.items; plus = w.plus.items; minus = w.minus.items }) };
+    ghost invariant = { λ w. HasEntries M (record {
+      survivals = w.survivals.items;
+      leavings = w.leavings.items;
+      plus = w.plus.items;
+      minus = w.minus.items;
+    }) };
 }
 
 impl<const M: usize> Work<M> {
     /// Room for M sets, with each entry exactly 0.
     pub fn new(alloc: Global) -> Result<Work<M>, Memory>
-        ensures { IfOk result (λ work. (mask : ℕ) → (entry work.sets mask ≡ nothing) × (entry work.plus mask ≡ nothing) × (entry work.minus mask ≡ nothing)) }
+        ensures { IfOk result (λ work. (mask : ℕ) →
+            (entry work.survivals mask ≡ nothing) × (entry work.leavings mask ≡ nothing)
+            × (entry work.plus mask ≡ nothing) × (entry work.minus mask ≡ nothing)) }
     {
-        let (Ok(sets), Ok(plus), Ok(minus)) = (
-            vec![in alloc; Ival::exact(0); M],
-            vec![in alloc; Ival::exact(0); M],
-            vec![in alloc; Ival::exact(0); M],
-        ) else {
-            return Err(Memory);
-        };
-        Ok(Work { sets, plus, minus })
+        Ok(Work {
+            survivals: vec![in alloc; Ival::exact(0); M]?,
+            leavings: vec![in alloc; Ival::exact(0); M]?,
+            plus: vec![in alloc; Ival::exact(0); M]?,
+            minus: vec![in alloc; Ival::exact(0); M]?,
+        })
     }
 
-    /// The entry of `sets` at a set.
+    /// The entry of `survivals` at a set.
     pub fn at(&self, set: u16) -> Ival
         requires { set < M }
-        ensures { result ≡ entry self.now.sets set }
+        ensures { result ≡ entry self.now.survivals set }
     {
-        self.sets[set as usize]
+        self.survivals[set as usize]
+    }
+
+    /// The entry of `leavings` at a set.
+    pub fn leaving(&self, set: u16) -> Ival
+        requires { set < M }
+        ensures { result ≡ entry self.now.leavings set }
+    {
+        self.leavings[set as usize]
     }
 
     /// The entry of `plus` at a set.
@@ -75,8 +94,10 @@ impl<const M: usize> Work<M> {
         ensures plus { entry self.new.plus set ≡ plus }
         ensures minus { entry self.new.minus set ≡ minus }
         ensures others { (mask : ℕ) → mask ≢ set →
-            (entry self.new.plus mask ≡ entry self.old.plus mask) × (entry self.new.minus mask ≡ entry self.old.minus mask) }
-        ensures sets { self.new.sets ≡ self.old.sets }
+            (entry self.new.plus mask ≡ entry self.old.plus mask)
+            × (entry self.new.minus mask ≡ entry self.old.minus mask) }
+        ensures survivals { self.new.survivals ≡ self.old.survivals }
+        ensures leavings { self.new.leavings ≡ self.old.leavings }
     {
         self.plus[set as usize] = plus;
         self.minus[set as usize] = minus;
@@ -84,7 +105,7 @@ impl<const M: usize> Work<M> {
 
     /// The sum of `plus` less `minus` over the subsets of a set of lives.
     pub fn total(&self, alive: u16) -> Ival
-        requires few { M ≤ 4096 }
+        requires few { M ≤ 2 ^ MOST_LIVES }
         requires modest { AreModest M self.now }
         ensures lo { result.lo ≡ (total_of self.now M alive).lo }
         ensures hi { result.hi ≡ (total_of self.now M alive).hi }
@@ -111,45 +132,29 @@ impl<const M: usize> Work<M> {
         }
     }
 
-    // Writes the entry of `sets` at a set, and leaves all else.
-    fn write(&mut self, set: u16, chance: Ival)
+    // Writes the entry of `survivals` at a set, and leaves all else.
+    pub(crate) fn put_survival(&mut self, set: u16, chance: Ival)
         requires { set < M }
-        ensures written { entry self.new.sets set ≡ chance }
-        ensures others { (mask : ℕ) → mask ≢ set → entry self.new.sets mask ≡ entry self.old.sets mask }
+        ensures written { entry self.new.survivals set ≡ chance }
+        ensures others { (mask : ℕ) → mask ≢ set →
+            entry self.new.survivals mask ≡ entry self.old.survivals mask }
+        ensures leavings { self.new.leavings ≡ self.old.leavings }
         ensures plus { self.new.plus ≡ self.old.plus }
         ensures minus { self.new.minus ≡ self.old.minus }
     {
-        self.sets[set as usize] = chance;
+        self.survivals[set as usize] = chance;
     }
 
-    // The chance of no life, which is 1.
-    pub(crate) fn begin(&mut self)
-        requires { 1 ≤ M }
-        ensures sure { entry self.new.sets 0 ≡ record { lo = pos fine; hi = pos fine } }
+    // Writes the entry of `leavings` at a set, and leaves all else.
+    pub(crate) fn put_leaving(&mut self, set: u16, chance: Ival)
+        requires { set < M }
+        ensures written { entry self.new.leavings set ≡ chance }
+        ensures others { (mask : ℕ) → mask ≢ set →
+            entry self.new.leavings mask ≡ entry self.old.leavings mask }
+        ensures survivals { self.new.survivals ≡ self.old.survivals }
         ensures plus { self.new.plus ≡ self.old.plus }
         ensures minus { self.new.minus ≡ self.old.minus }
     {
-        self.write(0, Ival::exact(ONE_IN_FINE_UNITS));
-    }
-
-    // Adds a life to the sets of the lives before it: a set with the life has the chance of the set
-    // without it times that of the life.
-    pub(crate) fn add_life<L: Ledger>(&mut self, life: u8, chance: Ival, steps: &mut Steps<L>)
-        requires few { life < 12 }
-        requires room { 2 ^ (life + 1) ≤ M }
-        requires chance { IsWithin chance (pos 0) (pos fine) }
-        requires chances { (mask : ℕ) → mask < 2 ^ life → IsWithin (entry self.old.sets mask) (pos 0) (pos fine) }
-        ensures kept { (mask : ℕ) → mask < 2 ^ life → entry self.new.sets mask ≡ entry self.old.sets mask }
-        ensures added { (mask n d v m e w : ℕ) → mask < 2 ^ life → EnclosesChance n d v (entry self.old.sets mask) →
-            EnclosesChance m e w chance → EnclosesChance (n * m) (d * e) (v + w + 1) (entry self.new.sets (2 ^ life + mask)) }
-        ensures plus { self.new.plus ≡ self.old.plus }
-        ensures minus { self.new.minus ≡ self.old.minus }
-        ensures cost { steps.new ≡ steps.old + 2 ^ life }
-    {
-        let half = 1u16 << life;
-        for mask in 0..half {
-            let product = self.at(mask).mul(chance, steps);
-            self.write(half + mask, product);
-        }
+        self.leavings[set as usize] = chance;
     }
 }
