@@ -3,3 +3,8 @@ pub mod Subsets
 pub mod Means
 pub mod Sure
 pub mod Rows
+pub mod Within
+pub mod Orders
+pub mod OneSet
+pub mod Firsts
+pub mod YearChances

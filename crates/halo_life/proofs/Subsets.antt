@@ -22,7 +22,7 @@ halved : (m i : ℕ) → m / 2 ^ suc i ≡ m / 2 / 2 ^ i
 halved m i = rw (pow-succ' 2 i) (sym (div-div-eq-div-mul m 2 (2 ^ i)))
 
 -- a bit taken off a mask is a number taken out of the set
-bits-less : (n mask b : ℕ) → b < n → has_bit mask b ≡ true → bits n (mask - 2 ^ b) ≡ set (bits n mask) b false
+pub bits-less : (n mask b : ℕ) → b < n → has_bit mask b ≡ true → bits n (mask - 2 ^ b) ≡ set (bits n mask) b false
 bits-less zero mask b h e = absurd (omega arith)
 bits-less (suc n) mask zero h e =
     let odd : mask % 2 ≡ 1 = one-bit (mask % 2) (whole mask e) in

@@ -12,6 +12,7 @@ pub(crate) fn mean(sum: Ival, count: u64) -> Ival
     requires some { 1 ≤ count }
     requires few { count ≤ 13 }
     ensures from { pos 0 ≤ℤ result.lo }
+    ensures low { (b : ℕ) → sum.lo ≤ℤ pos (count * b) → result.lo ≤ℤ pos b }
     ensures encloses { (n d : ℕ) → Encloses sum (pos n) d → Encloses result (pos n) (d * count) }
     ensures narrow { (w : ℕ) → HasWidth sum (count * w) → HasWidth result (w + 1) }
 {

@@ -37,8 +37,7 @@ impl<'a, const N: usize> Group<'a, N> {
         let _ = self.count();
         let first = first_of(set);
         let others = work.at(without(set, first));
-        let first = year.lives[usize::from(first)];
-        others.mul(first.staying, steps)
+        others.mul(year.of_life(first).staying, steps)
     }
 
     // The chance that the first of a set to leave counts.
@@ -118,8 +117,7 @@ impl<'a, const N: usize> Group<'a, N> {
     {
         let _ = self.count();
         let others = work.leaving(without(set, life));
-        let life = year.lives[usize::from(life)];
-        leaves_or_stays(life, others, steps)
+        leaves_or_stays(year.of_life(life), others, steps)
     }
 }
 
@@ -139,5 +137,6 @@ fn leaves_or_stays<L: Ledger>(life: YearOfLife, others: Ival, steps: &mut Steps<
         EnclosesChance n m v others → HasWidth result (v + 3) }
     ensures cost { steps.new ≡ steps.old + 1 }
 {
+    let _lowest = others.lo();
     life.leaving.add(life.staying.mul(others, steps))
 }

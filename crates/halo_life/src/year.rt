@@ -7,7 +7,7 @@ ghost use Rattle.halo_model.specs.FromTables.{lives_of};
 ghost use Rattle.halo_num.specs.Chance.{EnclosesChance};
 ghost use Rattle.halo_life.specs.Lists.{nothing};
 ghost use Rattle.halo_life.specs.PlainGroup.{leavers_in, survivors_in};
-ghost use Rattle.halo_life.specs.YearOfLives.{EncloseYears, EnclosesYear, numbers_of};
+ghost use Rattle.halo_life.specs.YearOfLives.{EncloseYears, EnclosesYear, numbers_of, year_at};
 ghost use Rattle.halo_life.specs.YearOfSets.{EncloseLeavings, EncloseSurvivals, products_of_leavings};
 
 use crate::group::{Group, MOST_LIVES};
@@ -34,6 +34,16 @@ pub(crate) struct Year {
     pub(crate) counted: u16,
     pub(crate) causes: Option<u8>,
     pub(crate) lives: [YearOfLife; MOST_LIVES],
+}
+
+impl Year {
+    // The chances of a life.
+    pub(crate) fn of_life(&self, life: u8) -> YearOfLife
+        requires { life < MOST_LIVES }
+        ensures { result ≡ year_at self.now.lives life }
+    {
+        self.lives[usize::from(life)]
+    }
 }
 
 impl<'a, const N: usize> Group<'a, N> {

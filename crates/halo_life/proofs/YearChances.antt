@@ -1,0 +1,105 @@
+-- The chances of a year of one life, from its table, and the numbers of all lives in a year.
+use Rattle.std.proofs.Common.{◌≡◌, ℕ, zero, suc, ◌+◌, ◌*◌, ◌<◌, ◌≤◌, arith, refl, ap, sym, ◌∙◌, List, [], ◌∷◌, length, get_or, map, Bool, true, false, cond, pos, ◌+ℤ◌, ◌*ℤ◌, ◌≤ℤ◌, ⊎_elim}
+use Rattle.std.proofs.lemmas.Bool.{cases_lt}
+use Rattle.std.proofs.lemmas.Int.{ints}
+use Rattle.std.proofs.lemmas.List.{get_or-map, get_or_past, length-map}
+use Rattle.halo_sums.specs.Masks.{has_bit}
+use Rattle.halo_sums.specs.Sets.{in_set}
+use Rattle.halo_sums.specs.Sums.{numbers_from, product_over, sum_over}
+use Rattle.halo_sums.proofs.Integers.{add_mul, le_of_mul_pos}
+use Rattle.halo_sums.proofs.Sums.{sum_over-ext, sum_over-none}
+use Rattle.halo_num.specs.Enclosure.{Encloses}
+use Rattle.halo_num.specs.Ends.{Ends, fine}
+use Rattle.halo_table.specs.declared.lives.Life.{Life}
+use Rattle.halo_model.specs.Chance.{asked}
+use Rattle.halo_model.specs.EvenTies.{YearNumbers, lives_in}
+use Rattle.halo_model.specs.FromTables.{life_of, lives_of}
+use Rattle.halo_model.specs.Horizon.{life_at}
+use Rattle.halo_model.specs.Life.{IsLife, PlainLife, after_first, leavers_by}
+use Rattle.halo_model.specs.OrderLaws.{no_life, year_numbers}
+use Rattle.halo_model.specs.Outcome.{joint_survivors}
+use Rattle.halo_model.proofs.FromTables.{life_of-IsLife, life_of-stops}
+use Rattle.halo_model.proofs.LeavingsOfASet.{next-lives}
+use Rattle.halo_life.specs.Lists.{nothing}
+use Rattle.halo_life.specs.PlainGroup.{IsGroup, PlainGroup, leavers_in, survivors_in}
+use Rattle.halo_life.specs.YearOfLives.{EnclosesYear, numbers_of}
+use Rattle.halo_life.specs.declared.year.Year.{Year}
+
+-- at most all leave
+some-leave : (js : List ℕ) (causes : ℕ → Bool) (f : ℕ → ℕ) → sum_over js (λ j. cond (causes j) (f j) 0) ≤ sum_over js f
+some-leave [] causes f = omega arith
+some-leave (j ∷ js) causes f = each (causes j) (some-leave js causes f)
+  where
+    each : (a : Bool) → sum_over js (λ j. cond (causes j) (f j) 0) ≤ sum_over js f → cond a (f j) 0 + sum_over js (λ j. cond (causes j) (f j) 0) ≤ f j + sum_over js f
+    each true h = omega (arith, h)
+    each false h = omega (arith, h)
+
+-- those who leave and those who survive a year are at most those alive at its start
+year-splits : (causes : ℕ → Bool) (x : PlainLife) → IsLife x → ((k j : ℕ) → x.years_left ≤ k → x.leavers k j ≡ 0) → (k : ℕ) → leavers_by causes x k + x.survivors (suc k) ≤ x.survivors k
+year-splits causes x rule stop k = ⊎_elim
+    (λ before. omega (arith, rule.falls k before, some-leave (numbers_from 0 x.causes) causes (x.leavers k)))
+    (λ past. omega (arith, rule.ends (suc k) (omega arith), sum_over-ext (numbers_from 0 x.causes) (λ j. cond (causes j) (x.leavers k j) 0) (λ j. 0) (λ j. none (causes j) (x.leavers k j) (stop k j past)), sum_over-none (numbers_from 0 x.causes)))
+    (cases_lt k x.years_left)
+  where
+    none : (asked : Bool) (n : ℕ) → n ≡ 0 → cond asked n 0 ≡ 0
+    none true n e = e
+    none false n e = refl
+
+-- a life of a group
+module _ (n : ℕ) (g : PlainGroup) (group : IsGroup n g) where
+  abbrev lives : List PlainLife
+  lives = lives_of g.file g.lives
+
+  pub group-splits : (causes : ℕ → Bool) (k i : ℕ) → i < n → leavers_in g causes k i + survivors_in g (suc k) i ≤ survivors_in g k i
+  group-splits causes k i low =
+      let x = life_at g.lives i in
+      let row = group.rows i low in
+      year-splits causes (life_of g.file x.table x.age) (life_of-IsLife g.file group.sound x.table x.age row.table_in row.from_first) (life_of-stops g.file group.sound x.table x.age row.table_in row.from_first) k
+
+  pub life-is : (i : ℕ) → i < n → get_or lives i no_life ≡ life_of g.file (life_at g.lives i).table (life_at g.lives i).age
+  life-is i low = get_or-map (λ (life : Life). life_of g.file life.table life.age) g.lives i (record { table = 0; age = 0 }) no_life (omega (arith, low, group.count))
+
+  length-lives : length lives ≡ n
+  length-lives = length-map g.lives (λ (life : Life). life_of g.file life.table life.age) ∙ group.count
+
+  -- no more leave and stay than are alive, and of no life nobody does
+  pub numbers-split : (year : Year) (i : ℕ) → (numbers_of g year).leaving i + (numbers_of g year).staying i ≤ (numbers_of g year).alive i
+  numbers-split year i = ⊎_elim
+      (λ (low : i < n). rw (life-is i low) (each (has_bit year.counted i) _ _ _ (group-splits (asked year.causes) year.k i low)))
+      (λ (high : n ≤ i). let gone : get_or lives i no_life ≡ no_life = get_or_past lives i no_life (omega (arith, length-lives)) in rw gone (nobody (has_bit year.counted i)))
+      (cases_lt i n)
+    where
+      each : (counts : Bool) (l s a : ℕ) → l + s ≤ a → cond counts l 0 + s ≤ a
+      each true l s a h = h
+      each false l s a h = omega (arith, h)
+
+      nobody : (counts : Bool) → cond counts 0 0 + 0 ≤ 0
+      nobody true = omega arith
+      nobody false = omega arith
+
+  -- the chances of a life are those of its numbers
+  pub year-of-numbers : (year : Year) (i : ℕ) → i < n → (leavers staying alive : ℕ) → leavers ≡ cond (has_bit year.counted i) (leavers_in g (asked year.causes) year.k i) 0
+      → staying ≡ survivors_in g (suc year.k) i → alive ≡ survivors_in g year.k i → (leaving : ℕ) → leaving ≡ leavers
+      → ((numbers_of g year).leaving i ≡ leavers) × ((numbers_of g year).staying i ≡ staying) × ((numbers_of g year).alive i ≡ alive)
+  year-of-numbers year i low leavers staying alive e f h leaving q = (rw (life-is i low) (sym e), rw (life-is i low) (sym f), rw (life-is i low) (sym h))
+
+-- the survivors of a joint life are the product of those of its lives
+joint-of-set : (t : ℕ) (lives : List PlainLife) (s : List Bool) → length s ≡ length lives
+    → joint_survivors t (in_set s) lives ≡ product_over (lives_in (length lives) (in_set s)) (λ i. (get_or lives i no_life).survivors t)
+joint-of-set t [] s same = refl
+joint-of-set t (x ∷ lives) [] same = absurd (omega arith)
+joint-of-set t (x ∷ lives) (true ∷ s) same =
+    ap (λ m. x.survivors t * m) (joint-of-set t lives s (omega arith) ∙ sym (next-lives (in_set (true ∷ s)) (length lives) 0 (λ i. (get_or (x ∷ lives) i no_life).survivors t)))
+joint-of-set t (x ∷ lives) (false ∷ s) same =
+    omega arith ∙ joint-of-set t lives s (omega arith) ∙ sym (next-lives (in_set (false ∷ s)) (length lives) 0 (λ i. (get_or (x ∷ lives) i no_life).survivors t))
+
+pub joint-is : (n t : ℕ) (lives : List PlainLife) (s : List Bool) → length lives ≡ n → length s ≡ n
+    → joint_survivors t (in_set s) lives ≡ product_over (lives_in n (in_set s)) (λ i. (get_or lives i no_life).survivors t)
+joint-is n t lives s count same = joint-of-set t lives s (same ∙ sym count) ∙ ap (λ k. product_over (lives_in k (in_set s)) (λ i. (get_or lives i no_life).survivors t)) count
+
+-- two parts of a whole have lower ends of at most 1 together
+pub parts-together : (a b : Ends) (n m d : ℕ) → (d ≡ 0 → a ≡ nothing) → (d ≡ 0 → b ≡ nothing) → n + m ≤ d → Encloses a (pos n) d → Encloses b (pos m) d → (a.lo +ℤ b.lo) ≤ℤ pos fine
+parts-together a b n m zero none_a none_b parts p q = rw (none_a refl, none_b refl) (omega (arith, ints))
+parts-together a b n m (suc d) none_a none_b parts p q =
+    let e : ((a.lo +ℤ b.lo) *ℤ pos (suc d)) ≤ℤ (pos fine *ℤ pos (suc d)) = rw (add_mul a.lo b.lo (pos (suc d))) (omega (arith, ints, p.low, q.low, parts)) in
+    le_of_mul_pos (a.lo +ℤ b.lo) (pos fine) (suc d) (omega arith) e
