@@ -8,3 +8,5 @@ pub mod Orders
 pub mod OneSet
 pub mod Firsts
 pub mod YearChances
+pub mod Filled
+pub mod AlongTree

@@ -1,5 +1,5 @@
 -- A mask within a mask is a set within a set: its lives, how many they are, and how many such sets there are.
-use Rattle.std.proofs.Common.{◌≡◌, pos, ℕ, zero, suc, ◌+◌, ◌*◌, ◌-◌, ◌^◌, ◌<◌, ◌≤◌, List, [], ◌∷◌, length, map, set, Bool, true, false, cond, ◌&&◌, nat_eq, min, arith, refl, ap, sym, ◌∙◌, ⊎_elim}
+use Rattle.std.proofs.Common.{◌≡◌, ◌≢◌, pos, ℕ, zero, suc, ◌+◌, ◌*◌, ◌-◌, ◌^◌, ◌<◌, ◌≤◌, List, [], ◌∷◌, length, map, set, Bool, true, false, cond, ◌&&◌, nat_eq, min, arith, refl, ap, sym, ◌∙◌, ⊎_elim}
 use Rattle.std.specs.Prelude.{bit_and}
 use Rattle.std.specs.Int.{bit_at}
 use Rattle.std.proofs.Math.Nat.{pow-suc}
@@ -52,6 +52,15 @@ same-is m n e = grind (arith, nat_tests)
 
 is-same : (m n : ℕ) → nat_eq m n ≡ true → m ≡ n
 is-same m n e = grind (arith, nat_tests)
+
+pub is-within : (mask all : ℕ) → bit_and mask all ≡ mask → is_within mask all ≡ true
+is-within mask all e = same-is (bit_and mask all) mask e
+
+pub not-within : (mask all : ℕ) → bit_and mask all ≢ mask → is_within mask all ≡ false
+not-within mask all differ = apart (bit_and mask all) mask differ
+  where
+    apart : (m n : ℕ) → m ≢ n → nat_eq m n ≡ false
+    apart m n h = grind (arith, nat_tests)
 
 -- each life of a set within another is in it, and where it is so the set is within it
 pub within-has : (mask all : ℕ) → is_within mask all ≡ true → (i : ℕ) → has_bit mask i ≡ true → has_bit all i ≡ true
@@ -145,6 +154,10 @@ lying-sets (false ∷ s) =
 
 sums-of-masks : (n : ℕ) (f : List Bool → ℕ) → sum_over (numbers_from 0 (2 ^ n)) (λ mask. f (bits n mask)) ≡ sum_over (sets n) f
 sums-of-masks n f = pos_injective _ _ (sym (int_sum_over-pos (numbers_from 0 (2 ^ n)) (λ mask. f (bits n mask))) ∙ int_sum_over-masks n (λ s. pos (f s)) ∙ int_sum_over-pos (sets n) f)
+
+pub some-sets : (n : ℕ) → 1 ≤ 2 ^ n
+some-sets zero = omega arith
+some-sets (suc n) = let twice : 2 ^ suc n ≡ 2 ^ n * 2 = pow-suc 2 n in omega (arith, some-sets n)
 
 -- how many of the first masks are within another
 abbrev pub sets_within : ℕ → ℕ → ℕ

@@ -1,5 +1,5 @@
 -- The chances of a year of one life, from its table, and the numbers of all lives in a year.
-use Rattle.std.proofs.Common.{◌≡◌, ℕ, zero, suc, ◌+◌, ◌*◌, ◌<◌, ◌≤◌, arith, refl, ap, sym, ◌∙◌, List, [], ◌∷◌, length, get_or, map, Bool, true, false, cond, pos, ◌+ℤ◌, ◌*ℤ◌, ◌≤ℤ◌, ⊎_elim}
+use Rattle.std.proofs.Common.{◌≡◌, ◌≢◌, ℕ, zero, suc, ◌+◌, ◌*◌, ◌<◌, ◌≤◌, arith, refl, ap, sym, ◌∙◌, List, [], ◌∷◌, length, get_or, set, get_or-set_other, get_or-set_same, Option, Bool, true, false, cond, pos, ◌+ℤ◌, ◌*ℤ◌, ◌≤ℤ◌, ⊎_elim}
 use Rattle.std.proofs.lemmas.Bool.{cases_lt}
 use Rattle.std.proofs.lemmas.Int.{ints}
 use Rattle.std.proofs.lemmas.List.{get_or-map, get_or_past, length-map}
@@ -22,8 +22,8 @@ use Rattle.halo_model.proofs.FromTables.{life_of-IsLife, life_of-stops}
 use Rattle.halo_model.proofs.LeavingsOfASet.{next-lives}
 use Rattle.halo_life.specs.Lists.{nothing}
 use Rattle.halo_life.specs.PlainGroup.{IsGroup, PlainGroup, leavers_in, survivors_in}
-use Rattle.halo_life.specs.YearOfLives.{EnclosesYear, numbers_of}
-use Rattle.halo_life.specs.declared.year.Year.{Year}
+use Rattle.halo_life.specs.YearOfLives.{EnclosesYear, year_at}
+use Rattle.halo_life.specs.declared.year.YearOfLife.{YearOfLife}
 
 -- at most all leave
 some-leave : (js : List ℕ) (causes : ℕ → Bool) (f : ℕ → ℕ) → sum_over js (λ j. cond (causes j) (f j) 0) ≤ sum_over js f
@@ -59,29 +59,34 @@ module _ (n : ℕ) (g : PlainGroup) (group : IsGroup n g) where
   pub life-is : (i : ℕ) → i < n → get_or lives i no_life ≡ life_of g.file (life_at g.lives i).table (life_at g.lives i).age
   life-is i low = get_or-map (λ (life : Life). life_of g.file life.table life.age) g.lives i (record { table = 0; age = 0 }) no_life (omega (arith, low, group.count))
 
-  length-lives : length lives ≡ n
+  pub length-lives : length lives ≡ n
   length-lives = length-map g.lives (λ (life : Life). life_of g.file life.table life.age) ∙ group.count
 
-  -- no more leave and stay than are alive, and of no life nobody does
-  pub numbers-split : (year : Year) (i : ℕ) → (numbers_of g year).leaving i + (numbers_of g year).staying i ≤ (numbers_of g year).alive i
-  numbers-split year i = ⊎_elim
-      (λ (low : i < n). rw (life-is i low) (each (has_bit year.counted i) _ _ _ (group-splits (asked year.causes) year.k i low)))
-      (λ (high : n ≤ i). let gone : get_or lives i no_life ≡ no_life = get_or_past lives i no_life (omega (arith, length-lives)) in rw gone (nobody (has_bit year.counted i)))
-      (cases_lt i n)
-    where
-      each : (counts : Bool) (l s a : ℕ) → l + s ≤ a → cond counts l 0 + s ≤ a
-      each true l s a h = h
-      each false l s a h = omega (arith, h)
+  -- the numbers of a year of the lives, of whom some count if they leave by some causes
+  module _ (k counted : ℕ) (causes : Option ℕ) where
+    abbrev numbers : YearNumbers
+    numbers = year_numbers (has_bit counted) (asked causes) lives k
 
-      nobody : (counts : Bool) → cond counts 0 0 + 0 ≤ 0
-      nobody true = omega arith
-      nobody false = omega arith
+    -- no more leave and stay than are alive; and of no life nobody does
+    pub numbers-split : (i : ℕ) → numbers.leaving i + numbers.staying i ≤ numbers.alive i
+    numbers-split i = ⊎_elim
+        (λ (low : i < n). rw (life-is i low) (each (has_bit counted i) _ _ _ (group-splits (asked causes) k i low)))
+        (λ (high : n ≤ i). let gone : get_or lives i no_life ≡ no_life = get_or_past lives i no_life (omega (arith, length-lives)) in rw gone (nobody (has_bit counted i)))
+        (cases_lt i n)
+      where
+        each : (counts : Bool) (l s a : ℕ) → l + s ≤ a → cond counts l 0 + s ≤ a
+        each true l s a h = h
+        each false l s a h = omega (arith, h)
 
-  -- the chances of a life are those of its numbers
-  pub year-of-numbers : (year : Year) (i : ℕ) → i < n → (leavers staying alive : ℕ) → leavers ≡ cond (has_bit year.counted i) (leavers_in g (asked year.causes) year.k i) 0
-      → staying ≡ survivors_in g (suc year.k) i → alive ≡ survivors_in g year.k i → (leaving : ℕ) → leaving ≡ leavers
-      → ((numbers_of g year).leaving i ≡ leavers) × ((numbers_of g year).staying i ≡ staying) × ((numbers_of g year).alive i ≡ alive)
-  year-of-numbers year i low leavers staying alive e f h leaving q = (rw (life-is i low) (sym e), rw (life-is i low) (sym f), rw (life-is i low) (sym h))
+        nobody : (counts : Bool) → cond counts 0 0 + 0 ≤ 0
+        nobody true = omega arith
+        nobody false = omega arith
+
+    -- the chances of a life are those of its numbers
+    pub year-of-numbers : (i : ℕ) → i < n → (year : YearOfLife)
+        → EnclosesYear (cond (has_bit counted i) (leavers_in g (asked causes) k i) 0) (survivors_in g (suc k) i) (survivors_in g k i) year
+        → EnclosesYear (numbers.leaving i) (numbers.staying i) (numbers.alive i) year
+    year-of-numbers i low year h = rw (life-is i low) h
 
 -- the survivors of a joint life are the product of those of its lives
 joint-of-set : (t : ℕ) (lives : List PlainLife) (s : List Bool) → length s ≡ length lives
@@ -103,3 +108,15 @@ parts-together a b n m zero none_a none_b parts p q = rw (none_a refl, none_b re
 parts-together a b n m (suc d) none_a none_b parts p q =
     let e : ((a.lo +ℤ b.lo) *ℤ pos (suc d)) ≤ℤ (pos fine *ℤ pos (suc d)) = rw (add_mul a.lo b.lo (pos (suc d))) (omega (arith, ints, p.low, q.low, parts)) in
     le_of_mul_pos (a.lo +ℤ b.lo) (pos fine) (suc d) (omega arith) e
+
+pub counted-less : (counts : Bool) (n : ℕ) → cond counts n 0 ≤ n
+counted-less true n = omega arith
+counted-less false n = omega arith
+
+-- the chances of one life more in its place
+pub stored : (P : ℕ → YearOfLife → Type 0) (lives : List YearOfLife) (at place : ℕ) (year : YearOfLife) → place ≡ at → at < length lives
+    → ((i : ℕ) → i < at → P i (year_at lives i)) → P at year → (i : ℕ) → i < at + 1 → P i (year_at (set lives place year) i)
+stored P lives at place year is room before here i low = rw is (⊎_elim
+    (λ (h : i < at). let other : i ≢ at = omega arith in rw get_or-set_other (before i h))
+    (λ (h : at ≤ i). let e : i ≡ at = omega arith in rw (e, get_or-set_same) here)
+    (cases_lt i at))

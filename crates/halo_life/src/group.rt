@@ -206,8 +206,9 @@ impl<'a, const N: usize> Group<'a, N> {
         ensures small { result ≤ 10000000000000 }
         ensures group { IsGroup N self.now }
     {
+        let tables = self.tables();
         let mut leavers = 0;
-        for cause in 0..self.tables.causes() {
+        for cause in 0..tables.causes() {
             leavers += self.leavers_if_asked(i, k, causes, cause);
         }
         leavers

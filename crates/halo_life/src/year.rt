@@ -6,7 +6,7 @@ ghost use Rattle.halo_model.specs.Chance.{asked};
 ghost use Rattle.halo_model.specs.FromTables.{lives_of};
 ghost use Rattle.halo_num.specs.Chance.{EnclosesChance};
 ghost use Rattle.halo_life.specs.Lists.{nothing};
-ghost use Rattle.halo_life.specs.PlainGroup.{leavers_in, survivors_in};
+ghost use Rattle.halo_life.specs.PlainGroup.{IsGroup, leavers_in, survivors_in};
 ghost use Rattle.halo_life.specs.YearOfLives.{EncloseYears, EnclosesYear, numbers_of, year_at};
 ghost use Rattle.halo_life.specs.YearOfSets.{EncloseLeavings, EncloseSurvivals, products_of_leavings};
 
@@ -120,6 +120,7 @@ impl<'a, const N: usize> Group<'a, N> {
         ensures counted { result.counted ≡ counted }
         ensures causes { result.causes ≡ causes }
         ensures years { EncloseYears N (numbers_of self.now result) result.lives }
+        ensures group { IsGroup N self.now }
     {
         let mut lives = [YearOfLife {
             leaving: Ival::exact(0),
