@@ -53,6 +53,8 @@ impl<'a, const N: usize> Group<'a, N> {
         if !has_bit(self.alive(), i) {
             return Ival::exact(0);
         }
+        // Those who leave in the year were alive at its start, and so at the group's time.
+        let _alive = self.survivors(i, k);
         Ival::ratio(self.leavers(i, k, causes), self.survivors(i, self.start()))
     }
 }
