@@ -1,10 +1,10 @@
 -- A list of the chances of all sets, from the set of nobody on.
-use Rattle.std.proofs.Common.{◌≡◌, ◌≢◌, ℕ, zero, suc, ◌+◌, ◌*◌, ◌/◌, ◌%◌, ◌^◌, ◌<◌, ◌≤◌, List, [], ◌∷◌, length, Bool, true, false, cond, pos, arith, refl, ap, sym, ◌∙◌, ⊎_elim}
+use Rattle.std.proofs.Common.{◌≡◌, ◌≢◌, ℕ, zero, suc, ◌+◌, ◌*◌, ◌/◌, ◌%◌, ◌^◌, ◌<◌, ◌≤◌, List, [], ◌∷◌, length, Bool, true, false, cond, pos, arith, refl, ap, ◌∙◌, ⊎_elim}
 use Rattle.std.proofs.lemmas.Bool.{cases_lt}
 use Rattle.std.proofs.lemmas.Int.{ints}
 use Rattle.halo_sums.specs.Masks.{bits}
 use Rattle.halo_sums.specs.Sets.{in_set, size_of}
-use Rattle.halo_sums.specs.Sums.{product_over, sum_over}
+use Rattle.halo_sums.specs.Sums.{sum_over}
 use Rattle.halo_sums.proofs.Sums.{sum_over-none}
 use Rattle.halo_num.specs.Ends.{Ends, fine}
 use Rattle.halo_model.specs.EvenTies.{YearNumbers, first_leaving, lives_in}

@@ -1,5 +1,5 @@
 -- The lives of a set as the first of it: the first one in the declared order, and the mean of all over all orders.
-use Rattle.std.proofs.Common.{◌≡◌, ℕ, zero, suc, ◌+◌, ◌*◌, ◌-◌, ◌/◌, ◌%◌, ◌^◌, ◌<◌, ◌≤◌, [], ◌∷◌, ◌++◌, length, Bool, true, false, cond, nat_eq, ℤ, pos, ◌+ℤ◌, ◌*ℤ◌, ◌≤ℤ◌, arith, refl, ap, sym, ◌∙◌}
+use Rattle.std.proofs.Common.{◌≡◌, ℕ, zero, suc, ◌+◌, ◌*◌, ◌-◌, ◌/◌, ◌%◌, ◌^◌, ◌<◌, ◌≤◌, [], ◌∷◌, length, Bool, true, false, cond, nat_eq, ℤ, pos, ◌+ℤ◌, ◌*ℤ◌, ◌≤ℤ◌, arith, refl, ap, sym, ◌∙◌}
 use Rattle.std.specs.List.{filter}
 use Rattle.std.specs.Int.{int_max, int_min}
 use Rattle.std.proofs.Math.Nat.{pow-suc}
@@ -23,7 +23,7 @@ use Rattle.halo_life.proofs.OneSet.{clamped-chance, size-of-lives}
 use Rattle.halo_life.proofs.Orders.{each-first, in-declared-order, leavings-most}
 use Rattle.halo_life.proofs.Subsets.{has-bit}
 use Rattle.halo_life.proofs.Sums.{sum_over-numbers_push}
-use Rattle.halo_life.proofs.Within.{bit-below, bit-of-set, inside}
+use Rattle.halo_life.proofs.Within.{bit-of-set, inside}
 
 -- the rule for ties, by whether it is the even one
 pub is-even : (ties : Ties) → is_even ties ≡ true → ties ≡ all_orders

@@ -1,5 +1,5 @@
 -- The chances of a year for one set of lives, from those of one of its lives and of the others.
-use Rattle.std.proofs.Common.{◌≡◌, ℕ, zero, suc, ◌+◌, ◌*◌, ◌-◌, ◌^◌, ◌<◌, ◌≤◌, List, [], ◌∷◌, length, Bool, true, false, cond, ℤ, pos, negsuc, ◌+ℤ◌, ◌*ℤ◌, ◌≤ℤ◌, arith, refl, ap, sym, ◌∙◌}
+use Rattle.std.proofs.Common.{◌≡◌, ℕ, zero, suc, ◌+◌, ◌*◌, ◌-◌, ◌^◌, ◌<◌, ◌≤◌, List, [], ◌∷◌, length, Bool, true, false, cond, ℤ, pos, negsuc, ◌*ℤ◌, ◌≤ℤ◌, arith, refl, ap, sym, ◌∙◌}
 use Rattle.std.specs.List.{filter}
 use Rattle.std.specs.Int.{int_max, int_min}
 use Rattle.std.proofs.lemmas.Int.{clamps, ints}
@@ -17,8 +17,7 @@ use Rattle.halo_model.specs.Order.{Ties, orders_taken}
 use Rattle.halo_model.specs.EvenTies.{YearNumbers, lives_in, without}
 use Rattle.halo_model.proofs.EvenTies.{length-with, taken-out}
 use Rattle.halo_life.specs.Lists.{entry}
-use Rattle.halo_life.specs.YearOfSets.{leavings_of_set}
-use Rattle.halo_life.specs.YearOfLives.{EnclosesFirst, EnclosesLeaving, EnclosesSurvival, EnclosesYear, HasSmaller, weight_as_first}
+use Rattle.halo_life.specs.YearOfLives.{EnclosesFirst, EnclosesLeaving, EnclosesSurvival, EnclosesYear, HasSmaller}
 use Rattle.halo_life.specs.declared.year.YearOfLife.{YearOfLife}
 use Rattle.halo_life.proofs.Subsets.{has-bit, without-bit}
 use Rattle.halo_life.proofs.Within.{bit-below, less-within}

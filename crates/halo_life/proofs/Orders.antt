@@ -1,5 +1,5 @@
 -- The first of a set of lives to leave, in the declared order and over all orders: one life of the set and the others.
-use Rattle.std.proofs.Common.{◌≡◌, get_or, ℕ, zero, suc, ◌+◌, ◌*◌, ◌-◌, ◌<◌, ◌≤◌, arith, refl, ap, sym, ◌∙◌, List, [], ◌∷◌, length, Bool, true, false, cond, nat_eq, nat_lt, ⊎_elim}
+use Rattle.std.proofs.Common.{◌≡◌, get_or, ℕ, zero, suc, ◌+◌, ◌*◌, ◌-◌, ◌<◌, ◌≤◌, arith, refl, ap, sym, ◌∙◌, List, [], ◌∷◌, length, Bool, true, false, cond, nat_eq, ⊎_elim}
 use Rattle.std.specs.Prelude.{All}
 use Rattle.std.specs.List.{filter}
 use Rattle.std.proofs.Math.Path.{fun_ext}
@@ -44,7 +44,7 @@ module _ (n : ℕ) (y : YearNumbers) where
       → leavings_of_set declared_order n y S ≡ weight_as_first declared_order n y S b
   in-declared-order S b at-b low lowest =
       let here = sym (looks-at-set n y S (numbers_from 0 n)) ∙ ap (first_in n y S) (first-apart S n 0 b at-b (omega arith) (omega arith) lowest)
-          ∙ first-step n y S b at-b low (filter (without S b) (numbers_from 0 n)) in
+      ∙ first-step n y S b at-b low (filter (without S b) (numbers_from 0 n)) in
       let others = looks-at-set n y (without S b) (numbers_from 0 n) in
       joined _ _ (y.leaving b) (y.staying b) _ _ here others
     where

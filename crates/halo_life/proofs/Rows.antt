@@ -1,17 +1,10 @@
 -- The set of the lives that have a row, one life more.
-use Rattle.std.proofs.Common.{◌≡◌, ◌≢◌, ℕ, zero, suc, ◌+◌, ◌-◌, ◌*◌, ◌/◌, ◌%◌, ◌^◌, ◌<◌, ◌≤◌, Bool, true, false, ◌||◌, nat_eq, nat_lt, arith, ap, sym, ◌∙◌, List, ⊎_elim, refl, pos}
+use Rattle.std.proofs.Common.{◌≡◌, ◌≢◌, ℕ, ◌+◌, ◌*◌, ◌%◌, ◌^◌, ◌<◌, ◌≤◌, Bool, true, false, ◌||◌, nat_eq, nat_lt, arith, ap, sym, ◌∙◌, ⊎_elim, refl}
 use Rattle.std.specs.Prelude.{bit_or}
-use Rattle.std.proofs.Math.Nat.{pow-le-pow_right, pow-suc}
 use Rattle.std.proofs.lemmas.Bool.{cases_lt}
 use Rattle.std.proofs.lemmas.Bool.Decides.{nat_tests}
-use Rattle.std.proofs.lemmas.Int.{ints}
-use Rattle.halo_sums.specs.Masks.{bits, has_bit}
-use Rattle.halo_sums.specs.Sets.{size_of}
+use Rattle.halo_sums.specs.Masks.{has_bit}
 use Rattle.halo_status.proofs.Masks.{has_bit-or, has_bit-shl}
-use Rattle.halo_num.specs.Ends.{Ends, fine}
-use Rattle.halo_model.specs.Life.{after_first}
-use Rattle.halo_num.specs.Chance.{EnclosesChance}
-use Rattle.halo_life.specs.Lists.{entry}
 
 -- of the lives below a number exactly those that hold are in the set of a mask, and no life from there on
 pub record AreRows (holds : ℕ → Bool) (count mask : ℕ) : Type 0 where

@@ -16,7 +16,7 @@ use Rattle.halo_sums.proofs.SetMasks.{length-bits}
 use Rattle.halo_sums.proofs.Sums.{sum_over-append, sum_over-map, sum_over-none}
 use Rattle.halo_model.specs.Life.{after_first}
 use Rattle.halo_model.specs.Backward.{lies_in}
-use Rattle.halo_model.proofs.EvenTies.{sum_over-from_ext}
+use Rattle.halo_sums.proofs.Numbers.{sum_over-numbers_ext}
 use Rattle.halo_life.specs.Total.{is_within}
 use Rattle.halo_life.proofs.Subsets.{bits-less}
 use Rattle.halo_life.proofs.Sums.{sum_over-numbers_push}
@@ -165,7 +165,7 @@ sets_within count all = sum_over (numbers_from 0 count) (λ mask. cond (is_withi
 
 pub all-sets-within : (n all : ℕ) → sets_within (2 ^ n) all ≡ 2 ^ size_of (bits n all)
 all-sets-within n all =
-    sum_over-from_ext (2 ^ n) 0 _ _ (λ mask from below. ap (λ is. cond is 1 0) (within-is n mask all (omega (arith, below))))
+    sum_over-numbers_ext (2 ^ n) 0 _ _ (λ mask from below. ap (λ is. cond is 1 0) (within-is n mask all (omega (arith, below))))
     ∙ sums-of-masks n (λ u. cond (lies_in u (in_set (bits n all))) 1 0)
     ∙ ap (λ k. sum_over (sets k) (λ u. cond (lies_in u (in_set (bits n all))) 1 0)) (sym (length-bits n all))
     ∙ lying-sets (bits n all)

@@ -5,9 +5,8 @@ use Rattle.std.proofs.lemmas.Int.{ints}
 use Rattle.std.proofs.lemmas.List.{get_or-map, get_or_past, length-map}
 use Rattle.halo_sums.specs.Masks.{has_bit}
 use Rattle.halo_sums.specs.Sets.{in_set}
-use Rattle.halo_sums.specs.Sums.{numbers_from, product_over, sum_over}
+use Rattle.halo_sums.specs.Sums.{product_over}
 use Rattle.halo_sums.proofs.Integers.{add_mul, le_of_mul_pos}
-use Rattle.halo_sums.proofs.Sums.{sum_over-ext, sum_over-none}
 use Rattle.halo_num.specs.Enclosure.{Encloses}
 use Rattle.halo_num.specs.Ends.{Ends, fine}
 use Rattle.halo_table.specs.declared.lives.Life.{Life}
@@ -15,46 +14,27 @@ use Rattle.halo_model.specs.Chance.{asked}
 use Rattle.halo_model.specs.EvenTies.{YearNumbers, lives_in}
 use Rattle.halo_model.specs.FromTables.{life_of, lives_of}
 use Rattle.halo_model.specs.Horizon.{life_at}
-use Rattle.halo_model.specs.Life.{IsLife, PlainLife, after_first, leavers_by}
+use Rattle.halo_model.specs.Life.{PlainLife}
 use Rattle.halo_model.specs.OrderLaws.{no_life, year_numbers}
 use Rattle.halo_model.specs.Outcome.{joint_survivors}
-use Rattle.halo_model.proofs.FromTables.{life_of-IsLife, life_of-stops}
+use Rattle.halo_model.proofs.FromTables.{life_of-IsLife}
+use Rattle.halo_model.proofs.Leavers.{year-splits}
 use Rattle.halo_model.proofs.LeavingsOfASet.{next-lives}
 use Rattle.halo_life.specs.Lists.{nothing}
-use Rattle.halo_life.specs.PlainGroup.{IsGroup, PlainGroup, leavers_in, survivors_in}
+use Rattle.halo_life.specs.PlainGroup.{IsGroup, PlainGroup, leavers_of_life, survivors_in}
 use Rattle.halo_life.specs.YearOfLives.{EnclosesYear, year_at}
 use Rattle.halo_life.specs.declared.year.YearOfLife.{YearOfLife}
-
--- at most all leave
-some-leave : (js : List ℕ) (causes : ℕ → Bool) (f : ℕ → ℕ) → sum_over js (λ j. cond (causes j) (f j) 0) ≤ sum_over js f
-some-leave [] causes f = omega arith
-some-leave (j ∷ js) causes f = each (causes j) (some-leave js causes f)
-  where
-    each : (a : Bool) → sum_over js (λ j. cond (causes j) (f j) 0) ≤ sum_over js f → cond a (f j) 0 + sum_over js (λ j. cond (causes j) (f j) 0) ≤ f j + sum_over js f
-    each true h = omega (arith, h)
-    each false h = omega (arith, h)
-
--- those who leave and those who survive a year are at most those alive at its start
-year-splits : (causes : ℕ → Bool) (x : PlainLife) → IsLife x → ((k j : ℕ) → x.years_left ≤ k → x.leavers k j ≡ 0) → (k : ℕ) → leavers_by causes x k + x.survivors (suc k) ≤ x.survivors k
-year-splits causes x rule stop k = ⊎_elim
-    (λ before. omega (arith, rule.falls k before, some-leave (numbers_from 0 x.causes) causes (x.leavers k)))
-    (λ past. omega (arith, rule.ends (suc k) (omega arith), sum_over-ext (numbers_from 0 x.causes) (λ j. cond (causes j) (x.leavers k j) 0) (λ j. 0) (λ j. none (causes j) (x.leavers k j) (stop k j past)), sum_over-none (numbers_from 0 x.causes)))
-    (cases_lt k x.years_left)
-  where
-    none : (asked : Bool) (n : ℕ) → n ≡ 0 → cond asked n 0 ≡ 0
-    none true n e = e
-    none false n e = refl
 
 -- a life of a group
 module _ (n : ℕ) (g : PlainGroup) (group : IsGroup n g) where
   abbrev lives : List PlainLife
   lives = lives_of g.file g.lives
 
-  pub group-splits : (causes : ℕ → Bool) (k i : ℕ) → i < n → leavers_in g causes k i + survivors_in g (suc k) i ≤ survivors_in g k i
+  pub group-splits : (causes : ℕ → Bool) (k i : ℕ) → i < n → leavers_of_life g causes k i + survivors_in g (suc k) i ≤ survivors_in g k i
   group-splits causes k i low =
       let x = life_at g.lives i in
       let row = group.rows i low in
-      year-splits causes (life_of g.file x.table x.age) (life_of-IsLife g.file group.sound x.table x.age row.table_in row.from_first) (life_of-stops g.file group.sound x.table x.age row.table_in row.from_first) k
+      year-splits causes (life_of g.file x.table x.age) (life_of-IsLife g.file group.sound x.table x.age row.table_in row.from_first) k
 
   pub life-is : (i : ℕ) → i < n → get_or lives i no_life ≡ life_of g.file (life_at g.lives i).table (life_at g.lives i).age
   life-is i low = get_or-map (λ (life : Life). life_of g.file life.table life.age) g.lives i (record { table = 0; age = 0 }) no_life (omega (arith, low, group.count))
@@ -84,7 +64,7 @@ module _ (n : ℕ) (g : PlainGroup) (group : IsGroup n g) where
 
     -- the chances of a life are those of its numbers
     pub year-of-numbers : (i : ℕ) → i < n → (year : YearOfLife)
-        → EnclosesYear (cond (has_bit counted i) (leavers_in g (asked causes) k i) 0) (survivors_in g (suc k) i) (survivors_in g k i) year
+        → EnclosesYear (cond (has_bit counted i) (leavers_of_life g (asked causes) k i) 0) (survivors_in g (suc k) i) (survivors_in g k i) year
         → EnclosesYear (numbers.leaving i) (numbers.staying i) (numbers.alive i) year
     year-of-numbers i low year h = rw (life-is i low) h
 

@@ -45,8 +45,8 @@ abbrev pub survivors_in : PlainGroup → ℕ → ℕ → ℕ
 survivors_in g t i = survivors_at g.file (life_at g.lives i).table ((life_at g.lives i).age + t)
 
 -- those who leave as a life does in year k by one of some causes: d_(x+k)
-abbrev pub leavers_in : PlainGroup → (ℕ → Bool) → ℕ → ℕ → ℕ
-leavers_in g causes k i =
+abbrev pub leavers_of_life : PlainGroup → (ℕ → Bool) → ℕ → ℕ → ℕ
+leavers_of_life g causes k i =
     leavers_by causes (life_of g.file (life_at g.lives i).table (life_at g.lives i).age) k
 
 -- the chances of a life are told in parts of its survivors at the group's time, and of 1 for a life that is not alive then: that it
@@ -58,4 +58,4 @@ abbrev pub surviving : PlainGroup → ℕ → ℕ → ℕ
 surviving g t i = cond (has_bit g.alive i) (survivors_in g t i) 0
 
 abbrev pub leaving : PlainGroup → (ℕ → Bool) → ℕ → ℕ → ℕ
-leaving g causes k i = cond (has_bit g.alive i) (leavers_in g causes k i) 0
+leaving g causes k i = cond (has_bit g.alive i) (leavers_of_life g causes k i) 0

@@ -11,9 +11,9 @@ ghost use Rattle.halo_life.specs.Lists.{nothing};
 ghost use Rattle.halo_life.specs.PlainGroup.{leaving, started, surviving};
 
 use crate::group::Group;
-use crate::sets::has_bit;
 use halo_interest::LAST_TIME;
 use halo_num::Ival;
+use halo_sums::has_bit;
 
 impl<'a, const N: usize> Group<'a, N> {
     /// The probability that life `i` is alive at time `t`, at most 1 fine unit wide: exactly 0 for a

@@ -6,9 +6,10 @@ ghost use Rattle.halo_model.specs.Chance.{asked};
 ghost use Rattle.halo_model.specs.FromTables.{HasRow};
 ghost use Rattle.halo_model.specs.Horizon.{life_at};
 ghost use Rattle.halo_model.specs.Order.{all_orders, declared_order};
-ghost use Rattle.halo_life.specs.PlainGroup.{IsGroup, is_even, leavers_in, survivors_in};
+ghost use Rattle.halo_life.specs.PlainGroup.{IsGroup, is_even, leavers_of_life, survivors_in};
 
 use halo_interest::LAST_TIME;
+use halo_sums::has_bit;
 use halo_table::{Life, Tables};
 use std::marker::Model;
 
@@ -69,8 +70,7 @@ impl<'a, const N: usize> Group<'a, N> {
         } }
     {
         // The proof sees here that the tables are sound.
-        let first = lives[0];
-        let _survivors = tables.survivors(first.table, first.age);
+        let _causes = tables.causes();
         Group {
             tables,
             lives,
@@ -201,7 +201,7 @@ impl<'a, const N: usize> Group<'a, N> {
     pub(crate) fn leavers(&self, i: u8, k: u16, causes: Option<u8>) -> u64
         requires life { i < N }
         requires time { k ≤ LAST_TIME }
-        ensures value { result ≡ leavers_in self.now (asked causes) k i }
+        ensures value { result ≡ leavers_of_life self.now (asked causes) k i }
         ensures part { result + survivors_in self.now (k + 1) i ≤ survivors_in self.now k i }
         ensures small { result ≤ 10000000000000 }
         ensures group { IsGroup N self.now }
@@ -227,7 +227,6 @@ impl<'a, const N: usize> Group<'a, N> {
     {
         let life = self.lives[i as usize];
         let _last_age = self.tables.last_age(life.table);
-        let _causes = self.tables.causes();
         if is_asked(causes, cause) {
             self.tables.leavers(life.table, life.age + k, cause)
         } else {
@@ -238,11 +237,10 @@ impl<'a, const N: usize> Group<'a, N> {
 
 // Whether a cause is asked for: one of a set, or any where there is none.
 fn is_asked(causes: Option<u8>, cause: u8) -> bool
-    requires { cause < 8 }
     ensures { result ≡ asked causes cause }
 {
     match causes {
         None => true,
-        Some(causes) => causes >> cause & 1 == 1,
+        Some(causes) => has_bit(u16::from(causes), cause),
     }
 }

@@ -11,10 +11,11 @@ ghost use Rattle.halo_life.specs.YearOfLives.{EncloseYears, EnclosesFirst, Enclo
 
 use crate::averaging::mean;
 use crate::group::Group;
-use crate::sets::{first_of, has_bit, without};
+use crate::sets::{first_of, without};
 use crate::work::Work;
 use crate::year::{Year, YearOfLife};
 use halo_num::{Ival, ONE_IN_FINE_UNITS, Steps};
+use halo_sums::has_bit;
 use std::sync::ledger::Ledger;
 
 impl<'a, const N: usize> Group<'a, N> {

@@ -2,14 +2,6 @@
 ghost use Rattle.std.specs.Prelude.{◌≡◌, ℕ, ◌-◌, ◌^◌, ◌<◌, ◌≤◌, true};
 ghost use Rattle.halo_sums.specs.Masks.{has_bit};
 
-// Whether a life is in a set.
-pub(crate) fn has_bit(set: u16, life: u8) -> bool
-    requires { life < 16 }
-    ensures { result ≡ has_bit set life }
-{
-    set >> life & 1 == 1
-}
-
 // The first life of a set.
 pub(crate) fn first_of(set: u16) -> u8
     requires { 0 < set }

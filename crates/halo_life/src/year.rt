@@ -6,15 +6,15 @@ ghost use Rattle.halo_model.specs.Chance.{asked};
 ghost use Rattle.halo_model.specs.FromTables.{lives_of};
 ghost use Rattle.halo_num.specs.Chance.{EnclosesChance};
 ghost use Rattle.halo_life.specs.Lists.{nothing};
-ghost use Rattle.halo_life.specs.PlainGroup.{IsGroup, leavers_in, survivors_in};
+ghost use Rattle.halo_life.specs.PlainGroup.{IsGroup, leavers_of_life, survivors_in};
 ghost use Rattle.halo_life.specs.YearOfLives.{EncloseYears, EnclosesYear, numbers_of, year_at};
 ghost use Rattle.halo_life.specs.YearOfSets.{EncloseLeavings, EncloseSurvivals, products_of_leavings};
 
 use crate::group::{Group, MOST_LIVES};
-use crate::sets::has_bit;
 use crate::work::Work;
 use halo_interest::LAST_TIME;
 use halo_num::{Ival, ONE_IN_FINE_UNITS, Steps};
+use halo_sums::has_bit;
 use std::sync::ledger::Ledger;
 
 /// The chances of a year of a life that is alive at its start.
@@ -141,7 +141,7 @@ impl<'a, const N: usize> Group<'a, N> {
     fn year_of_life(&self, i: u8, k: u16, counted: bool, causes: Option<u8>) -> YearOfLife
         requires life { i < N }
         requires year { k < LAST_TIME }
-        ensures year { EnclosesYear (cond counted (leavers_in self.now (asked causes) k i) 0)
+        ensures year { EnclosesYear (cond counted (leavers_of_life self.now (asked causes) k i) 0)
             (survivors_in self.now (suc k) i) (survivors_in self.now k i) result }
     {
         let alive = self.survivors(i, k);

@@ -1,4 +1,4 @@
-use Rattle.std.proofs.Common.{◌≡◌, ◌-◌, ◌^◌, ◌<◌, arith}
+use Rattle.std.proofs.Common.{◌^◌, ◌<◌, arith}
 use Rattle.halo_life.specs.YearOfLives.{EnclosesLeaving, EnclosesYear, numbers_of}
 use Rattle.halo_life.proofs.OneSet.{chance-without, first-with}
 use Rattle.halo_life.proofs.group.Group.as_first.Goals as goal

@@ -1,4 +1,4 @@
-use Rattle.std.proofs.Common.{◌≡◌, ◌<◌, ◌≤◌, length, arith, rules}
+use Rattle.std.proofs.Common.{◌<◌, ◌≤◌, length, arith}
 use Rattle.halo_sums.specs.Masks.{has_bit}
 use Rattle.halo_num.specs.Chance.{EnclosesChance}
 use Rattle.halo_model.specs.Chance.{asked}

@@ -1,9 +1,8 @@
-use Rattle.std.proofs.Common.{◌≡◌, ◌+◌, length, suc, cond, arith, ap, ◌∙◌}
-use Rattle.halo_sums.specs.Sums.{numbers_from, sum_over}
+use Rattle.std.proofs.Common.{◌≡◌, ◌+◌, length, suc, cond, arith, ap}
 use Rattle.halo_table.specs.DecrementTable.{leavers_at}
 use Rattle.halo_model.specs.Chance.{asked}
 use Rattle.halo_model.specs.Horizon.{life_at}
-use Rattle.halo_life.specs.PlainGroup.{leavers_in, survivors_in}
+use Rattle.halo_life.specs.PlainGroup.{leavers_of_life}
 use Rattle.halo_life.proofs.Sums.{sum_over-numbers_push}
 use Rattle.halo_life.proofs.YearChances.{group-splits}
 use Rattle.halo_life.proofs.group.Group.leavers.Goals as goal
@@ -27,6 +26,6 @@ pub returns-clause-part : goal.returns-clause-part
 returns-clause-part g c =
     let end : c.loop-cause.cause ≡ length c.args.self.now.file.causes =
     omega (arith, c.loop-cause-test.false, c.causes-cause-end.ensures.all, ap (λ file. length file.causes) c.tables-tables.ensures.value) in
-    let value : c.loop-cause.leavers ≡ leavers_in c.args.self.now (asked c.args.causes) c.args.k c.args.i = rw end at c.loop-cause.invariant.sum in
+    let value : c.loop-cause.leavers ≡ leavers_of_life c.args.self.now (asked c.args.causes) c.args.k c.args.i = rw end at c.loop-cause.invariant.sum in
     let next : c.args.k + 1 ≡ suc c.args.k = omega arith in
     rw (value, next) (group-splits g.row.N c.args.self.now c.tables-tables.ensures.group (asked c.args.causes) c.args.k c.args.i c.requires.life)

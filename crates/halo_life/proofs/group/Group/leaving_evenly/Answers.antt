@@ -1,12 +1,12 @@
-use Rattle.std.proofs.Common.{◌≡◌, ◌+◌, ◌^◌, ◌<◌, ◌≤◌, length, true, false, arith, rules, ap, sym, ◌∙◌}
+use Rattle.std.proofs.Common.{◌≡◌, ◌^◌, ◌<◌, ◌≤◌, length, true, false, arith, sym, ◌∙◌}
 use Rattle.std.specs.List.{filter}
 use Rattle.std.proofs.lemmas.Int.{ints}
 use Rattle.halo_sums.specs.Masks.{bits, has_bit}
-use Rattle.halo_sums.specs.Sets.{in_set, size_of}
+use Rattle.halo_sums.specs.Sets.{in_set}
 use Rattle.halo_sums.specs.Sums.{numbers_from}
 use Rattle.halo_life.specs.YearOfLives.{EnclosesFirst, numbers_of}
 use Rattle.halo_model.specs.Order.{all_orders}
-use Rattle.halo_life.proofs.Firsts.{IsCut, IsSumTo, count-with, evenly-enclosed, size-some, sum-of-none, sum-with, sum-without}
+use Rattle.halo_life.proofs.Firsts.{IsCut, IsSumTo, count-with, evenly-enclosed, size-some, sum-with, sum-without}
 use Rattle.halo_life.proofs.OneSet.{size-of-lives}
 use Rattle.halo_life.proofs.group.Group.leaving_evenly.Goals.{then-has_bit, else-has_bit}
 use Rattle.halo_life.proofs.group.Group.leaving_evenly.Goals as goal

@@ -1,8 +1,5 @@
-use Rattle.std.proofs.Common.{◌≡◌, ◌^◌, ◌<◌, true, false, lit<, arith, sym, ◌∙◌}
-use Rattle.halo_sums.specs.Masks.{bits}
-use Rattle.halo_sums.specs.Sets.{size_of}
-use Rattle.halo_model.specs.Order.{all_orders, declared_order}
-use Rattle.halo_life.specs.PlainGroup.{is_even}
+use Rattle.std.proofs.Common.{◌^◌, ◌<◌, lit<, arith, sym, ◌∙◌}
+use Rattle.halo_model.specs.Order.{declared_order}
 use Rattle.halo_life.specs.YearOfLives.{EnclosesFirst, numbers_of}
 use Rattle.halo_life.proofs.Firsts.{IsCut, in-order-enclosed, is-declared, is-even, size-some}
 use Rattle.halo_life.proofs.Within.{bit-below}

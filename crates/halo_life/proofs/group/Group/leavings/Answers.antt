@@ -1,4 +1,4 @@
-use Rattle.std.proofs.Common.{◌≡◌, ◌+◌, ◌*◌, ◌^◌, ◌<◌, ◌≤◌, suc, lit<, length, true, false, cond, arith, refl, ap, sym, ◌∙◌}
+use Rattle.std.proofs.Common.{◌≡◌, ◌^◌, ◌<◌, lit<, length, true, false, arith, refl, ◌∙◌}
 use Rattle.halo_sums.specs.Masks.{bits}
 use Rattle.halo_sums.specs.Sets.{size_of}
 use Rattle.halo_sums.proofs.SetMasks.{length-bits}
@@ -25,9 +25,25 @@ loop-set-init g c = record {
 
 pub leaving_of_set-chance-requires : goal.leaving_of_set-chance-requires
 leaving_of_set-chance-requires g c =
-    let within = is-within c.loop-set.set c.args.named c.if-set-named.true in
-    (lit< tt, (lit< tt, (c.requires.sets, (c.loop-set.invariant.some, (c.loop-set-test.true, (c.year_of_lives-year.ensures.years,
-    λ part less inside. c.loop-set.invariant.sets part less (within-both part c.loop-set.set c.args.named inside within)))))))
+    let within = is-within c.loop-set.set c.args.named c.if-set-named.true in (
+      lit< tt,
+      (
+        lit< tt,
+        (
+          c.requires.sets,
+          (
+            c.loop-set.invariant.some,
+            (
+              c.loop-set-test.true,
+              (
+                c.year_of_lives-year.ensures.years,
+                λ part less inside. c.loop-set.invariant.sets part less (within-both part c.loop-set.set c.args.named inside within),
+              ),
+            ),
+          ),
+        ),
+      ),
+    )
 
 pub loop-set-preserved : goal.loop-set-preserved
 loop-set-preserved g c =

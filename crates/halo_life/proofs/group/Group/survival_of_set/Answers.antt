@@ -1,9 +1,8 @@
-use Rattle.std.proofs.Common.{◌≡◌, ◌-◌, ◌^◌, ◌<◌, arith}
+use Rattle.std.proofs.Common.{◌^◌, ◌<◌, arith}
 use Rattle.std.proofs.lemmas.Int.{ints}
 use Rattle.halo_life.specs.YearOfLives.{EnclosesSurvival, EnclosesYear, numbers_of}
 use Rattle.halo_life.proofs.OneSet.{chance-without, survival-with}
 use Rattle.halo_life.proofs.Within.{bit-below}
-use Rattle.halo_life.proofs.Orders.{leavings-most}
 use Rattle.halo_life.proofs.group.Group.survival_of_set.Goals as goal
 
 pub of_life-requires : goal.of_life-requires

@@ -1,8 +1,7 @@
-use Rattle.std.proofs.Common.{◌≡◌, ◌+◌, ◌^◌, ◌<◌, suc, lit<, length, true, false, arith, refl, ap, sym, ◌∙◌}
+use Rattle.std.proofs.Common.{◌≡◌, ◌+◌, ◌^◌, suc, lit<, length, true, false, arith, refl, ap, ◌∙◌}
 use Rattle.halo_sums.specs.Masks.{bits}
 use Rattle.halo_sums.proofs.SetMasks.{length-bits}
 use Rattle.halo_model.specs.FromTables.{lives_of}
-use Rattle.halo_life.specs.Total.{is_within}
 use Rattle.halo_life.specs.YearOfLives.{EnclosesSurvival, numbers_of}
 use Rattle.halo_life.proofs.Filled.{filled-with, filled-without, survival-of-nobody}
 use Rattle.halo_life.proofs.Within.{all-sets-within, is-within, not-within, one-set-more, some-sets, within-both}
@@ -24,9 +23,25 @@ loop-set-init g c = record {
 
 pub survival_of_set-chance-requires : goal.survival_of_set-chance-requires
 survival_of_set-chance-requires g c =
-    let within = is-within c.loop-set.set c.args.named c.if-set-named.true in
-    (lit< tt, (lit< tt, (c.requires.sets, (c.loop-set.invariant.some, (c.loop-set-test.true, (c.year_of_lives-year.ensures.years,
-    λ part less inside. c.loop-set.invariant.sets part less (within-both part c.loop-set.set c.args.named inside within)))))))
+    let within = is-within c.loop-set.set c.args.named c.if-set-named.true in (
+      lit< tt,
+      (
+        lit< tt,
+        (
+          c.requires.sets,
+          (
+            c.loop-set.invariant.some,
+            (
+              c.loop-set-test.true,
+              (
+                c.year_of_lives-year.ensures.years,
+                λ part less inside. c.loop-set.invariant.sets part less (within-both part c.loop-set.set c.args.named inside within),
+              ),
+            ),
+          ),
+        ),
+      ),
+    )
 
 pub loop-set-preserved : goal.loop-set-preserved
 loop-set-preserved g c =

@@ -1,6 +1,6 @@
 use Rattle.std.proofs.Common.{◌≡◌, ◌+◌, ◌≤◌, suc, cond, arith, ap, ◌∙◌}
 use Rattle.halo_model.specs.Chance.{asked}
-use Rattle.halo_life.specs.PlainGroup.{leavers_in, survivors_in}
+use Rattle.halo_life.specs.PlainGroup.{leavers_of_life, survivors_in}
 use Rattle.halo_life.proofs.YearChances.{counted-less, parts-together}
 use Rattle.halo_life.proofs.group.Group.year_of_life.Goals as goal
 
@@ -11,7 +11,7 @@ returns g c =
     let i = c.args.i in
     let next : k + 1 ≡ suc k = omega arith in
     let staying : c.survivors-staying.result ≡ survivors_in group (suc k) i = c.survivors-staying.ensures.value ∙ ap (λ t. survivors_in group t i) next in
-    let leaving : c.counted_part-leaving.result ≡ cond c.args.counted (leavers_in group (asked c.args.causes) k i) 0 =
+    let leaving : c.counted_part-leaving.result ≡ cond c.args.counted (leavers_of_life group (asked c.args.causes) k i) 0 =
     c.counted_part-leaving.ensures ∙ ap (λ m. cond c.args.counted m 0) c.leavers.ensures.value in
     let parts : c.counted_part-leaving.result + c.survivors-staying.result ≤ c.survivors-alive.result =
     omega (arith, c.counted_part-leaving.ensures, counted-less c.args.counted c.leavers.result, c.leavers.ensures.part, c.survivors-staying.ensures.value, c.survivors-alive.ensures.value) in

@@ -1,4 +1,4 @@
-use Rattle.std.proofs.Common.{ℕ, ◌<◌, ◌≤◌, length, ◌≡◌}
+use Rattle.std.proofs.Common.{ℕ, ◌<◌, length, ◌≡◌}
 use Rattle.halo_sums.specs.Masks.{has_bit}
 use Rattle.halo_model.specs.Chance.{asked}
 use Rattle.halo_model.specs.FromTables.{lives_of}

@@ -1,5 +1,0 @@
-mod Subsets
-mod Steps
-mod Means
-mod Sums
-mod MeanSteps
