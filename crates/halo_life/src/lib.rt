@@ -10,6 +10,8 @@ mod chances;
 mod group;
 mod one_set;
 mod sets;
+#[cfg(test)]
+mod tests;
 mod work;
 mod year;
 
