@@ -29,14 +29,16 @@ nobody : (n : ℕ) → lives_in n (in_set (bits n 0)) ≡ []
 nobody n = none-of (lives_in n (in_set (bits n 0))) (size-of-lives n 0 ∙ nobody-in n)
 
 -- all of nobody stay, and nobody of them leaves
-pub survival-of-nobody : (n : ℕ) (y : YearNumbers) (i : Ends) → i.lo ≡ pos fine → i.hi ≡ pos fine → EnclosesSurvival n y 0 i
+pub survival-of-nobody : (n : ℕ) (y : YearNumbers) (i : Ends)
+    → i.lo ≡ pos fine → i.hi ≡ pos fine → EnclosesSurvival n y 0 i
 survival-of-nobody n y i e f = rw (nobody n, nobody-in n) (record {
   encloses = record { low = rw e (omega (arith, ints)); high = rw f (omega (arith, ints)) };
   narrow = record { near = rw (e, f) (omega (arith, ints)) };
   within = record { low = rw e (omega (arith, ints)); high = rw f (omega (arith, ints)) };
 })
 
-pub leaving-of-nobody : (ties : Ties) (n : ℕ) (y : YearNumbers) (i : Ends) → i.lo ≡ pos 0 → i.hi ≡ pos 0 → EnclosesLeaving ties n y 0 i
+pub leaving-of-nobody : (ties : Ties) (n : ℕ) (y : YearNumbers) (i : Ends)
+    → i.lo ≡ pos 0 → i.hi ≡ pos 0 → EnclosesLeaving ties n y 0 i
 leaving-of-nobody ties n y i e f = rw (none, nobody-in n) (record {
   encloses = record { low = rw e (omega (arith, ints)); high = rw f (omega (arith, ints)) };
   narrow = record { near = rw (e, f) (omega (arith, ints)) };
@@ -44,24 +46,29 @@ leaving-of-nobody ties n y i e f = rw (none, nobody-in n) (record {
 })
   where
     none : leavings_of_set ties n y (in_set (bits n 0)) ≡ 0
-    none = ap (λ xs. sum_over (orders_taken ties n) (λ order. first_leaving y (rank_in order) xs)) (nobody n) ∙ sum_over-none (orders_taken ties n)
+    none = ap (λ xs. sum_over (orders_taken ties n) (λ order. first_leaving y (rank_in order) xs)) (nobody n)
+        ∙ sum_over-none (orders_taken ties n)
 
 -- one set more has its chance, or is not within the named lives
 abbrev pub AreFilled : (ℕ → Ends → Type 0) → ℕ → ℕ → List Ends → Type 0
-AreFilled IsChance named count list = (mask : ℕ) → mask < count → is_within mask named ≡ true → IsChance mask (entry list mask)
+AreFilled IsChance named count list = (mask : ℕ)
+    → mask < count → is_within mask named ≡ true → IsChance mask (entry list mask)
 
 module _ (IsChance : ℕ → Ends → Type 0) (named set : ℕ) where
-  pub filled-with : (old new : List Ends) (chance : Ends) → AreFilled IsChance named set old → IsChance set chance → entry new set ≡ chance
+  pub filled-with : (old new : List Ends) (chance : Ends)
+      → AreFilled IsChance named set old → IsChance set chance → entry new set ≡ chance
       → ((mask : ℕ) → mask ≢ set → entry new mask ≡ entry old mask) → AreFilled IsChance named (set + 1) new
   filled-with old new chance before here written others mask low within = ⊎_elim
       (λ (h : mask < set). let other : mask ≢ set = omega arith in rw (others mask other) (before mask h within))
       (λ (h : set ≤ mask). let e : mask ≡ set = omega arith in rw (e, written) here)
       (cases_lt mask set)
 
-  pub filled-without : (list : List Ends) → is_within set named ≡ false → AreFilled IsChance named set list → AreFilled IsChance named (set + 1) list
+  pub filled-without : (list : List Ends)
+      → is_within set named ≡ false → AreFilled IsChance named set list → AreFilled IsChance named (set + 1) list
   filled-without list out before mask low within = ⊎_elim
       (λ (h : mask < set). before mask h within)
-      (λ (h : set ≤ mask). let e : mask ≡ set = omega arith in absurd (let in_it : is_within set named ≡ true = rw e at within in cc))
+      (λ (h : set ≤ mask). let e : mask ≡ set = omega arith in
+      absurd (let in_it : is_within set named ≡ true = rw e at within in cc))
       (cases_lt mask set)
 
 -- the products that all sets take, where each takes at most one, or one for each named life

@@ -39,7 +39,8 @@ pub size-some : (n mask : ℕ) → 0 < mask → mask < 2 ^ n → 1 ≤ size_of (
 size-some zero mask some below = absurd (omega arith)
 size-some (suc n) mask some below = each (nat_eq (mask % 2) 1) refl (size-some n (mask / 2))
   where
-    each : (b : Bool) → nat_eq (mask % 2) 1 ≡ b → (0 < mask / 2 → mask / 2 < 2 ^ n → 1 ≤ size_of (bits n (mask / 2))) → 1 ≤ size_of (b ∷ bits n (mask / 2))
+    each : (b : Bool) → nat_eq (mask % 2) 1 ≡ b
+        → (0 < mask / 2 → mask / 2 < 2 ^ n → 1 ≤ size_of (bits n (mask / 2))) → 1 ≤ size_of (b ∷ bits n (mask / 2))
     each true e rest = omega arith
     each false e rest =
         let even : mask % 2 ≡ 0 = odd-or-even (mask % 2) (omega arith) e in
@@ -53,14 +54,16 @@ size-some (suc n) mask some below = each (nat_eq (mask % 2) 1) refl (size-some n
 pub record IsCut (r t : Ends) : Type 0 where
   pub lo : t.lo ≡ int_max r.lo (pos 0)
   pub hi : t.hi ≡ int_min r.hi (pos fine)
-  pub encloses : (m : ℤ) (d : ℕ) → Encloses r m d → (pos 0 *ℤ pos d) ≤ℤ (m *ℤ pos fine) → (m *ℤ pos fine) ≤ℤ (pos fine *ℤ pos d) → Encloses t m d
+  pub encloses : (m : ℤ) (d : ℕ)
+      → Encloses r m d → (pos 0 *ℤ pos d) ≤ℤ (m *ℤ pos fine) → (m *ℤ pos fine) ≤ℤ (pos fine *ℤ pos d) → Encloses t m d
 
 module _ (n : ℕ) (y : YearNumbers) (mask : ℕ) where
   abbrev S : ℕ → Bool
   S = in_set (bits n mask)
 
   -- the chance of a set is that of its first life, in the declared order
-  pub in-order-enclosed : ((i : ℕ) → y.leaving i + y.staying i ≤ y.alive i) → (b : ℕ) → b < n → has_bit mask b ≡ true → ((i : ℕ) → has_bit mask i ≡ true → b ≤ i) → 1 ≤ size_of (bits n mask)
+  pub in-order-enclosed : ((i : ℕ) → y.leaving i + y.staying i ≤ y.alive i)
+      → (b : ℕ) → b < n → has_bit mask b ≡ true → ((i : ℕ) → has_bit mask i ≡ true → b ≤ i) → 1 ≤ size_of (bits n mask)
       → (r t : Ends) → EnclosesFirst declared_order n y mask b r → IsCut r t → EnclosesLeaving declared_order n y mask t
   in-order-enclosed parts b low there lowest some r t first cut =
       clamped-chance _ _ r t (4 * size_of (bits n mask)) cut.lo cut.hi first.within.low
@@ -77,15 +80,19 @@ module _ (n : ℕ) (y : YearNumbers) (mask : ℕ) where
         (length (orders_taken all_orders n) * product_over (lives_in n S) y.alive)
     pub narrow : HasWidth sum (length (filter S (numbers_from 0 lives)) * (4 * (size_of (bits n mask) - 1) + 3))
 
-  count-next : (l : ℕ) (is : Bool) → S l ≡ is → length (filter S (numbers_from 0 (l + 1))) ≡ length (filter S (numbers_from 0 l)) + cond is 1 0
-  count-next l is e = ap (λ xs. length (filter S xs)) (numbers_from-split l 1) ∙ ap length (filter-append S (numbers_from 0 l) (l ∷ []))
-      ∙ length-append (filter S (numbers_from 0 l)) (filter S (l ∷ [])) ∙ ap (λ k. length (filter S (numbers_from 0 l)) + k) (one is e)
+  count-next : (l : ℕ) (is : Bool)
+      → S l ≡ is → length (filter S (numbers_from 0 (l + 1))) ≡ length (filter S (numbers_from 0 l)) + cond is 1 0
+  count-next l is e = ap (λ xs. length (filter S xs)) (numbers_from-split l 1)
+      ∙ ap length (filter-append S (numbers_from 0 l) (l ∷ []))
+      ∙ length-append (filter S (numbers_from 0 l)) (filter S (l ∷ []))
+      ∙ ap (λ k. length (filter S (numbers_from 0 l)) + k) (one is e)
     where
       one : (is : Bool) → S l ≡ is → length (filter S (l ∷ [])) ≡ cond is 1 0
       one true e = rw e refl
       one false e = rw e refl
 
-  pub count-with : (l : ℕ) → l < n → (is : Bool) → has_bit mask l ≡ is → length (filter S (numbers_from 0 (l + 1))) ≡ length (filter S (numbers_from 0 l)) + cond is 1 0
+  pub count-with : (l : ℕ) → l < n → (is : Bool) → has_bit mask l ≡ is
+      → length (filter S (numbers_from 0 (l + 1))) ≡ length (filter S (numbers_from 0 l)) + cond is 1 0
   count-with l low is e = count-next l is (has-bit n mask l low is e)
 
   pub sum-of-none : (sum : Ends) → sum.lo ≡ pos 0 → sum.hi ≡ pos 0 → IsSumTo 0 sum
@@ -94,10 +101,13 @@ module _ (n : ℕ) (y : YearNumbers) (mask : ℕ) where
     narrow = record { near = rw (e, f) (omega (arith, ints)) };
   }
 
-  next : (l : ℕ) (is : Bool) → S l ≡ is → sum_over (numbers_from 0 (l + 1)) (λ b. cond (S b) (weight_as_first all_orders n y S b) 0)
-      ≡ sum_over (numbers_from 0 l) (λ b. cond (S b) (weight_as_first all_orders n y S b) 0) + cond is (weight_as_first all_orders n y S l) 0
+  next : (l : ℕ) (is : Bool)
+      → S l ≡ is → sum_over (numbers_from 0 (l + 1)) (λ b. cond (S b) (weight_as_first all_orders n y S b) 0)
+      ≡ sum_over (numbers_from 0 l) (λ b. cond (S b) (weight_as_first all_orders n y S b) 0)
+      + cond is (weight_as_first all_orders n y S l) 0
   next l is e = sum_over-numbers_push l (λ b. cond (S b) (weight_as_first all_orders n y S b) 0)
-      ∙ ap (λ t. sum_over (numbers_from 0 l) (λ b. cond (S b) (weight_as_first all_orders n y S b) 0) + cond t (weight_as_first all_orders n y S l) 0) e
+      ∙ ap (λ t. sum_over (numbers_from 0 l) (λ b. cond (S b) (weight_as_first all_orders n y S b) 0)
+      + cond t (weight_as_first all_orders n y S l) 0) e
 
   -- a life that is not in the set gives nothing
   pub sum-without : (l : ℕ) (sum : Ends) → l < n → has_bit mask l ≡ false → IsSumTo l sum → IsSumTo (l + 1) sum
@@ -120,22 +130,28 @@ module _ (n : ℕ) (y : YearNumbers) (mask : ℕ) where
       let in_it = has-bit n mask l low true there in
       record {
         encloses = rw (next l true in_it) (add _ _ _ part.encloses first.encloses);
-        narrow = rw (count-next l true in_it) (let both = width _ _ part.narrow first.narrow in record { near = omega (arith, ints, both.near) });
+        narrow = rw (count-next l true in_it)
+            (let both = width _ _ part.narrow first.narrow in record { near = omega (arith, ints, both.near) });
       }
 
   -- the mean of what all lives of the set give
-  pub evenly-enclosed : ((i : ℕ) → y.leaving i + y.staying i ≤ y.alive i) → (count : ℕ) → count ≡ length (filter S (numbers_from 0 n)) → 1 ≤ count → (sum r t : Ends) → IsSumTo n sum
-      → pos 0 ≤ℤ r.lo → ((m d : ℕ) → Encloses sum (pos m) d → Encloses r (pos m) (d * count)) → ((w : ℕ) → HasWidth sum (count * w) → HasWidth r (w + 1))
+  pub evenly-enclosed : ((i : ℕ) → y.leaving i + y.staying i ≤ y.alive i)
+      → (count : ℕ) → count ≡ length (filter S (numbers_from 0 n)) → 1 ≤ count → (sum r t : Ends) → IsSumTo n sum
+      → pos 0 ≤ℤ r.lo → ((m d : ℕ) → Encloses sum (pos m) d → Encloses r (pos m) (d * count))
+      → ((w : ℕ) → HasWidth sum (count * w) → HasWidth r (w + 1))
       → IsCut r t → EnclosesLeaving all_orders n y mask t
   evenly-enclosed parts count is some sum r t part from divided narrow cut =
       clamped-chance _ _ r t (4 * size_of (bits n mask)) cut.lo cut.hi from
-      (let w = narrow (4 * (size_of (bits n mask) - 1) + 3) (rw is part.narrow) in record { near = omega (arith, ints, w.near, size) })
-      (encloses_reduced r (pos (leavings_of_set all_orders n y S)) (length (orders_taken all_orders n) * product_over (lives_in n S) y.alive) count (omega arith)
+      (let w = narrow (4 * (size_of (bits n mask) - 1) + 3) (rw is part.narrow) in
+      record { near = omega (arith, ints, w.near, size) })
+      (encloses_reduced r (pos (leavings_of_set all_orders n y S))
+      (length (orders_taken all_orders n) * product_over (lives_in n S) y.alive) count (omega arith)
       (rw all at (divided _ _ part.encloses)))
       (leavings-most n y parts all_orders S (λ i h. inside n mask i h)) cut.encloses
     where
       size : count ≡ size_of (bits n mask)
       size = is ∙ size-of-lives n mask
 
-      all : sum_over (numbers_from 0 n) (λ b. cond (S b) (weight_as_first all_orders n y S b) 0) ≡ leavings_of_set all_orders n y S * count
+      all : sum_over (numbers_from 0 n) (λ b. cond (S b) (weight_as_first all_orders n y S b) 0)
+          ≡ leavings_of_set all_orders n y S * count
       all = sym (each-first n y S) ∙ ap (λ k. k * leavings_of_set all_orders n y S) (sym is) ∙ omega arith

@@ -18,11 +18,14 @@ use Rattle.halo_life.specs.YearOfSets.{leavings_of_set}
 use Rattle.halo_life.specs.YearOfLives.{weight_as_first}
 
 -- the first life of a set stands before the others
-without-past : (S : ℕ → Bool) (count first b : ℕ) → b < first → filter (without S b) (numbers_from first count) ≡ filter S (numbers_from first count)
+without-past : (S : ℕ → Bool) (count first b : ℕ)
+    → b < first → filter (without S b) (numbers_from first count) ≡ filter S (numbers_from first count)
 without-past S zero first b h = refl
-without-past S (suc count) first b h = rw (without-there S b first (above first b h), without-past S count (suc first) b (omega arith)) refl
+without-past S (suc count) first b h =
+    rw (without-there S b first (above first b h), without-past S count (suc first) b (omega arith)) refl
 
-first-apart : (S : ℕ → Bool) (count first b : ℕ) → S b ≡ true → first ≤ b → b < first + count → ((i : ℕ) → S i ≡ true → b ≤ i)
+first-apart : (S : ℕ → Bool) (count first b : ℕ)
+    → S b ≡ true → first ≤ b → b < first + count → ((i : ℕ) → S i ≡ true → b ≤ i)
     → filter S (numbers_from first count) ≡ b ∷ filter (without S b) (numbers_from first count)
 first-apart S zero first b at-b low high lowest = absurd (omega arith)
 first-apart S (suc count) first b at-b low high lowest = ⊎_elim
@@ -30,11 +33,14 @@ first-apart S (suc count) first b at-b low high lowest = ⊎_elim
     (λ reached. let e : first ≡ b = omega arith in rw e (here (suc b) (omega arith)))
     (cases_lt first b)
   where
-    here : (next : ℕ) → b < next → filter S (b ∷ numbers_from next count) ≡ b ∷ filter (without S b) (b ∷ numbers_from next count)
+    here : (next : ℕ)
+        → b < next → filter S (b ∷ numbers_from next count) ≡ b ∷ filter (without S b) (b ∷ numbers_from next count)
     here next h = rw (without-here S b, at-b, without-past S count next b h) refl
 
-    skip : (c : Bool) → S first ≡ c → first < b → filter S (numbers_from (suc first) count) ≡ b ∷ filter (without S b) (numbers_from (suc first) count)
-        → filter S (first ∷ numbers_from (suc first) count) ≡ b ∷ filter (without S b) (first ∷ numbers_from (suc first) count)
+    skip : (c : Bool) → S first ≡ c → first < b
+        → filter S (numbers_from (suc first) count) ≡ b ∷ filter (without S b) (numbers_from (suc first) count)
+        → filter S (first ∷ numbers_from (suc first) count)
+        ≡ b ∷ filter (without S b) (first ∷ numbers_from (suc first) count)
     skip true e before rest = absurd (omega (arith, lowest first e))
     skip false e before rest = rw (without-there S b first (below first b before), e) rest
 
@@ -43,7 +49,8 @@ module _ (n : ℕ) (y : YearNumbers) where
   pub in-declared-order : (S : ℕ → Bool) (b : ℕ) → S b ≡ true → b < n → ((i : ℕ) → S i ≡ true → b ≤ i)
       → leavings_of_set declared_order n y S ≡ weight_as_first declared_order n y S b
   in-declared-order S b at-b low lowest =
-      let here = sym (looks-at-set n y S (numbers_from 0 n)) ∙ ap (first_in n y S) (first-apart S n 0 b at-b (omega arith) (omega arith) lowest)
+      let here = sym (looks-at-set n y S (numbers_from 0 n))
+      ∙ ap (first_in n y S) (first-apart S n 0 b at-b (omega arith) (omega arith) lowest)
       ∙ first-step n y S b at-b low (filter (without S b) (numbers_from 0 n)) in
       let others = looks-at-set n y (without S b) (numbers_from 0 n) in
       joined _ _ (y.leaving b) (y.staying b) _ _ here others
@@ -53,15 +60,23 @@ module _ (n : ℕ) (y : YearNumbers) where
 
   -- over all orders each life of a set comes first equally often
   pub count-all : length (orders_taken all_orders n) ≡ factorial n
-  count-all = omega (arith, sum_over-const (orders (numbers_from 0 n)) 1, orders-count (numbers_from 0 n) 1, ap factorial (length-numbers n 0))
+  count-all = omega (
+    arith,
+    sum_over-const (orders (numbers_from 0 n)) 1,
+    orders-count (numbers_from 0 n) 1,
+    ap factorial (length-numbers n 0),
+  )
 
   pub each-first : (S : ℕ → Bool) → length (lives_in n S) * leavings_of_set all_orders n y S
       ≡ sum_over (numbers_from 0 n) (λ b. cond (S b) (weight_as_first all_orders n y S b) 0)
   unfolding first_leaving_evenly
-  each-first S = first-leaving-evenly n y S ∙ sum_over-kept S (numbers_from 0 n) _ ∙ ap (λ f. sum_over (numbers_from 0 n) (λ b. cond (S b) (f b) 0)) (fun_ext (λ b. same b))
+  each-first S = first-leaving-evenly n y S ∙ sum_over-kept S (numbers_from 0 n) _
+      ∙ ap (λ f. sum_over (numbers_from 0 n) (λ b. cond (S b) (f b) 0)) (fun_ext (λ b. same b))
     where
-      same : (b : ℕ) → y.leaving b * (factorial n * product_over (lives_in n (without S b)) y.alive) + y.staying b * first_leaving_evenly n y (without S b) ≡ weight_as_first all_orders n y S b
-      same b = ap (λ f. y.leaving b * (f * product_over (lives_in n (without S b)) y.alive) + y.staying b * leavings_of_set all_orders n y (without S b)) (sym count-all)
+      same : (b : ℕ) → y.leaving b * (factorial n * product_over (lives_in n (without S b)) y.alive)
+          + y.staying b * first_leaving_evenly n y (without S b) ≡ weight_as_first all_orders n y S b
+      same b = ap (λ f. y.leaving b * (f * product_over (lives_in n (without S b)) y.alive)
+          + y.staying b * leavings_of_set all_orders n y (without S b)) (sym count-all)
 
   -- the weight of a set is at most that of all its lives
   module _ (parts : (i : ℕ) → y.leaving i + y.staying i ≤ y.alive i) where
@@ -87,11 +102,15 @@ module _ (n : ℕ) (y : YearNumbers) where
     in-order : (rank : ℕ → ℕ) (lives : List ℕ) → first_leaving y rank lives ≤ first_leaving full rank lives
     in-order rank lives = sum-more _ _ (λ a. product-more _ _ (more rank a) lives) lives
 
-    sum-most : (f : List ℕ → ℕ) (c : ℕ) (xs : List (List ℕ)) → All (λ order. f order ≤ c) xs → sum_over xs f ≤ length xs * c
+    sum-most : (f : List ℕ → ℕ) (c : ℕ) (xs : List (List ℕ))
+        → All (λ order. f order ≤ c) xs → sum_over xs f ≤ length xs * c
     sum-most f c [] h = omega arith
-    sum-most f c (x ∷ xs) h = omega (arith, All-head (λ order. f order ≤ c) x xs h, sum-most f c xs (All-tail (λ order. f order ≤ c) x xs h))
+    sum-most f c (x ∷ xs) h =
+        omega (arith, All-head (λ order. f order ≤ c) x xs h, sum-most f c xs (All-tail (λ order. f order ≤ c) x xs h))
 
     pub leavings-most : (ties : Ties) (S : ℕ → Bool) → ((i : ℕ) → S i ≡ true → i < n)
         → leavings_of_set ties n y S ≤ length (orders_taken ties n) * product_over (lives_in n S) y.alive
-    leavings-most ties S low = sum-most (λ order. first_leaving y (rank_in order) (lives_in n S)) (product_over (lives_in n S) y.alive) (orders_taken ties n)
-        (λ k d before. let whole = some-leaves-in-each-order n full (λ i h. omega (arith, parts i)) S low ties k d before in omega (arith, whole, in-order (rank_in (get_or (orders_taken ties n) k d)) (lives_in n S)))
+    leavings-most ties S low = sum-most (λ order. first_leaving y (rank_in order) (lives_in n S))
+        (product_over (lives_in n S) y.alive) (orders_taken ties n)
+        (λ k d before. let whole = some-leaves-in-each-order n full (λ i h. omega (arith, parts i)) S low ties
+        k d before in omega (arith, whole, in-order (rank_in (get_or (orders_taken ties n) k d)) (lives_in n S)))

@@ -19,11 +19,13 @@ at : (a : Bool) (k : ℕ) → (a || nat_eq k k) ≡ true
 at true k = refl
 at false k = grind (arith, nat_tests)
 
-pub row-more : (holds : ℕ → Bool) (count mask : ℕ) → count < 16 → holds count ≡ true → AreRows holds count mask → AreRows holds (count + 1) (bit_or mask (1 * 2 ^ count % 65536))
+pub row-more : (holds : ℕ → Bool) (count mask : ℕ) → count < 16
+    → holds count ≡ true → AreRows holds count mask → AreRows holds (count + 1) (bit_or mask (1 * 2 ^ count % 65536))
 row-more holds count mask few is rows = record {
   each = λ k below. ⊎_elim
       (λ (before : k < count). joined k ∙ beside (has_bit mask k) k count (omega arith) ∙ rows.each k before)
-      (λ (not_before : count ≤ k). let here : k ≡ count = omega arith in rw here (joined count ∙ at (has_bit mask count) count ∙ sym is))
+      (λ (not_before : count ≤ k). let here : k ≡ count = omega arith in
+      rw here (joined count ∙ at (has_bit mask count) count ∙ sym is))
       (cases_lt k count);
   none = λ k above. joined k ∙ beside (has_bit mask k) k count (omega arith) ∙ rows.none k (omega arith);
 }
@@ -31,11 +33,13 @@ row-more holds count mask few is rows = record {
     joined : (k : ℕ) → has_bit (bit_or mask (1 * 2 ^ count % 65536)) k ≡ (has_bit mask k || nat_eq k count)
     joined k = has_bit-or mask (1 * 2 ^ count % 65536) k ∙ ap (λ b. has_bit mask k || b) (has_bit-shl count k few)
 
-pub row-less : (holds : ℕ → Bool) (count mask : ℕ) → holds count ≡ false → AreRows holds count mask → AreRows holds (count + 1) mask
+pub row-less : (holds : ℕ → Bool) (count mask : ℕ)
+    → holds count ≡ false → AreRows holds count mask → AreRows holds (count + 1) mask
 row-less holds count mask is rows = record {
   each = λ k below. ⊎_elim
       (λ (before : k < count). rows.each k before)
-      (λ (not_before : count ≤ k). let here : k ≡ count = omega arith in rw here (rows.none count (omega arith) ∙ sym is))
+      (λ (not_before : count ≤ k). let here : k ≡ count = omega arith in
+      rw here (rows.none count (omega arith) ∙ sym is))
       (cases_lt k count);
   none = λ k above. rows.none k (omega arith);
 }

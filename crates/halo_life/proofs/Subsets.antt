@@ -65,7 +65,8 @@ in_set-less (c ∷ s) (suc b) zero = kept c (nat_eq 0 (suc b)) (apart-back b)
 in_set-less (c ∷ s) (suc b) (suc i) = in_set-less s b i ∙ ap (λ t. in_set s i && not t) (next i b)
 
 -- the set of a mask with a bit taken off
-pub without-bit : (n mask b : ℕ) → b < n → has_bit mask b ≡ true → in_set (bits n (mask - 2 ^ b)) ≡ without (in_set (bits n mask)) b
+pub without-bit : (n mask b : ℕ)
+    → b < n → has_bit mask b ≡ true → in_set (bits n (mask - 2 ^ b)) ≡ without (in_set (bits n mask)) b
 without-bit n mask b h e = rw (bits-less n mask b h e) (fun_ext (in_set-less (bits n mask) b))
 
 pub has-bit : (n mask b : ℕ) → b < n → (c : Bool) → has_bit mask b ≡ c → in_set (bits n mask) b ≡ c

@@ -24,7 +24,8 @@ ceiling-whole (pos a) n some f =
     ap pos (omega (arith, low, high))
 ceiling-whole (negsuc a) n some f = absurd (omega (arith, ints, f.reached))
 
-pub whole-ratio : (i : Ends) (m n : ℕ) → m ≡ n → 1 ≤ n → IsFloor i.lo (pos (m * fine)) (pos n) → IsCeiling i.hi (pos (m * fine)) (pos n) → i ≡ record { lo = pos fine; hi = pos fine }
+pub whole-ratio : (i : Ends) (m n : ℕ) → m ≡ n → 1 ≤ n → IsFloor i.lo (pos (m * fine)) (pos n)
+    → IsCeiling i.hi (pos (m * fine)) (pos n) → i ≡ record { lo = pos fine; hi = pos fine }
 whole-ratio i m n e some f c =
     let low = floor-whole i.lo n some (rw e at f) in
     let high = ceiling-whole i.hi n some (rw e at c) in

@@ -70,7 +70,8 @@ within-has mask all within i there =
     bit-of all i (omega (arith, one, both, bit_at-lt all i))
 
 pub within-by : (mask all : ℕ) → ((i : ℕ) → has_bit mask i ≡ true → has_bit all i ≡ true) → is_within mask all ≡ true
-within-by mask all each = same-is (bit_and mask all) mask (same_from_bits (bit_and mask all) mask (λ i. bit_at_and mask all i ∙ by-bit i (bit_at mask i) refl))
+within-by mask all each = same-is (bit_and mask all) mask
+    (same_from_bits (bit_and mask all) mask (λ i. bit_at_and mask all i ∙ by-bit i (bit_at mask i) refl))
   where
     by-bit : (i x : ℕ) → bit_at mask i ≡ x → min (bit_at mask i) (bit_at all i) ≡ bit_at mask i
     by-bit i zero e = omega (arith, e)
@@ -78,8 +79,10 @@ within-by mask all each = same-is (bit_and mask all) mask (same_from_bits (bit_a
     by-bit i (suc (suc x)) e = absurd (omega (arith, e, bit_at-lt mask i))
 
 -- a set within a set within another
-pub within-both : (part mask all : ℕ) → is_within part mask ≡ true → is_within mask all ≡ true → is_within part all ≡ true
-within-both part mask all first second = within-by part all (λ i there. within-has mask all second i (within-has part mask first i there))
+pub within-both : (part mask all : ℕ)
+    → is_within part mask ≡ true → is_within mask all ≡ true → is_within part all ≡ true
+within-both part mask all first second =
+    within-by part all (λ i there. within-has mask all second i (within-has part mask first i there))
 
 same-tests : (a b : Bool) → (a ≡ true → b ≡ true) → (b ≡ true → a ≡ true) → a ≡ b
 same-tests true b h k = sym (h refl)
@@ -102,7 +105,8 @@ module _ (n mask i : ℕ) where
   pub bit-below : mask < 2 ^ n → has_bit mask i ≡ true → i < n
   bit-below below there = ⊎_elim
       (λ (in_range : i < n). in_range)
-      (λ (out : n ≤ i). absurd (let none = bit_at_above mask n i below out in let one = bit-is mask i there in omega arith))
+      (λ (out : n ≤ i). absurd
+      (let none = bit_at_above mask n i below out in let one = bit-is mask i there in omega arith))
       (cases_lt i n)
 
   set-of-bit : mask < 2 ^ n → has_bit mask i ≡ true → in_set (bits n mask) i ≡ true
@@ -111,13 +115,16 @@ module _ (n mask i : ℕ) where
 -- masks within masks are sets within sets
 within-is : (n mask all : ℕ) → mask < 2 ^ n → is_within mask all ≡ lies_in (bits n mask) (in_set (bits n all))
 within-is n mask all below = same-tests (is_within mask all) (lies_in (bits n mask) (in_set (bits n all)))
-    (λ within. all-lie (bits n mask) (in_set (bits n all)) (λ i h. sym (has_bit-bits n all i (inside n mask i h)) ∙ within-has mask all within i (bit-of-set n mask i h)))
-    (λ lies. within-by mask all (λ i there. bit-of-set n all i (lies-all (bits n mask) (in_set (bits n all)) lies i (set-of-bit n mask i below there))))
+    (λ within. all-lie (bits n mask) (in_set (bits n all))
+    (λ i h. sym (has_bit-bits n all i (inside n mask i h)) ∙ within-has mask all within i (bit-of-set n mask i h)))
+    (λ lies. within-by mask all (λ i there. bit-of-set n all i
+    (lies-all (bits n mask) (in_set (bits n all)) lies i (set-of-bit n mask i below there))))
 
 -- a set without one of its lives is within it
 pub less-within : (n mask b : ℕ) → mask < 2 ^ n → has_bit mask b ≡ true → is_within (mask - 2 ^ b) mask ≡ true
 less-within n mask b below there = within-by (mask - 2 ^ b) mask (λ i h.
-    bit-of-set n mask i (less (bits n mask) b i (rw (bits-less n mask b (bit-below n mask b below there) there) at (set-of-bit n (mask - 2 ^ b) i (omega arith) h))))
+    bit-of-set n mask i (less (bits n mask) b i (rw (bits-less n mask b
+    (bit-below n mask b below there) there) at (set-of-bit n (mask - 2 ^ b) i (omega arith) h))))
   where
     less : (s : List Bool) (b i : ℕ) → in_set (set s b false) i ≡ true → in_set s i ≡ true
     less [] b i e = e
@@ -135,12 +142,15 @@ lying-size (false ∷ u) (false ∷ s) len h = lying-size u s (omega arith) h
 lying-size (true ∷ u) (true ∷ s) len h = omega (arith, lying-size u s (omega arith) h)
 lying-size (true ∷ u) (false ∷ s) len h = absurd (cc)
 
-pub within-size : (n mask all : ℕ) → mask < 2 ^ n → is_within mask all ≡ true → size_of (bits n mask) ≤ size_of (bits n all)
+pub within-size : (n mask all : ℕ)
+    → mask < 2 ^ n → is_within mask all ≡ true → size_of (bits n mask) ≤ size_of (bits n all)
 within-size n mask all below within =
-    lying-size (bits n mask) (bits n all) (length-bits n mask ∙ sym (length-bits n all)) (sym (within-is n mask all below) ∙ within)
+    lying-size (bits n mask)
+    (bits n all) (length-bits n mask ∙ sym (length-bits n all)) (sym (within-is n mask all below) ∙ within)
 
 -- the sets that lie in a set: twice as many for each life of it
-sum_over-sets : (n : ℕ) (f : List Bool → ℕ) → sum_over (sets (suc n)) f ≡ sum_over (sets n) (λ u. f (false ∷ u)) + sum_over (sets n) (λ u. f (true ∷ u))
+sum_over-sets : (n : ℕ) (f : List Bool → ℕ)
+    → sum_over (sets (suc n)) f ≡ sum_over (sets n) (λ u. f (false ∷ u)) + sum_over (sets n) (λ u. f (true ∷ u))
 sum_over-sets n f = sum_over-append (map (λ u. false ∷ u) (sets n)) (map (λ u. true ∷ u) (sets n)) f
     ∙ omega (arith, sum_over-map (λ u. false ∷ u) (sets n) f, sum_over-map (λ u. true ∷ u) (sets n) f)
 
@@ -150,10 +160,13 @@ lying-sets (true ∷ s) =
     let twice : 2 ^ suc (size_of s) ≡ 2 * 2 ^ size_of s = pow-suc 2 (size_of s) ∙ omega arith in
     sum_over-sets (length s) (λ u. cond (lies_in u (in_set (true ∷ s))) 1 0) ∙ rw twice (omega (arith, lying-sets s))
 lying-sets (false ∷ s) =
-    sum_over-sets (length s) (λ u. cond (lies_in u (in_set (false ∷ s))) 1 0) ∙ omega (arith, lying-sets s, sum_over-none (sets (length s)))
+    sum_over-sets (length s) (λ u. cond (lies_in u (in_set (false ∷ s))) 1 0)
+    ∙ omega (arith, lying-sets s, sum_over-none (sets (length s)))
 
-sums-of-masks : (n : ℕ) (f : List Bool → ℕ) → sum_over (numbers_from 0 (2 ^ n)) (λ mask. f (bits n mask)) ≡ sum_over (sets n) f
-sums-of-masks n f = pos_injective _ _ (sym (int_sum_over-pos (numbers_from 0 (2 ^ n)) (λ mask. f (bits n mask))) ∙ int_sum_over-masks n (λ s. pos (f s)) ∙ int_sum_over-pos (sets n) f)
+sums-of-masks : (n : ℕ) (f : List Bool → ℕ)
+    → sum_over (numbers_from 0 (2 ^ n)) (λ mask. f (bits n mask)) ≡ sum_over (sets n) f
+sums-of-masks n f = pos_injective _ _ (sym (int_sum_over-pos (numbers_from 0 (2 ^ n)) (λ mask. f (bits n mask)))
+    ∙ int_sum_over-masks n (λ s. pos (f s)) ∙ int_sum_over-pos (sets n) f)
 
 pub some-sets : (n : ℕ) → 1 ≤ 2 ^ n
 some-sets zero = omega arith
@@ -165,10 +178,13 @@ sets_within count all = sum_over (numbers_from 0 count) (λ mask. cond (is_withi
 
 pub all-sets-within : (n all : ℕ) → sets_within (2 ^ n) all ≡ 2 ^ size_of (bits n all)
 all-sets-within n all =
-    sum_over-numbers_ext (2 ^ n) 0 _ _ (λ mask from below. ap (λ is. cond is 1 0) (within-is n mask all (omega (arith, below))))
+    sum_over-numbers_ext
+    (2 ^ n) 0 _ _ (λ mask from below. ap (λ is. cond is 1 0) (within-is n mask all (omega (arith, below))))
     ∙ sums-of-masks n (λ u. cond (lies_in u (in_set (bits n all))) 1 0)
     ∙ ap (λ k. sum_over (sets k) (λ u. cond (lies_in u (in_set (bits n all))) 1 0)) (sym (length-bits n all))
     ∙ lying-sets (bits n all)
 
-pub one-set-more : (count all : ℕ) (is : Bool) → is_within count all ≡ is → sets_within (count + 1) all ≡ sets_within count all + cond is 1 0
-one-set-more count all is e = sum_over-numbers_push count (λ mask. cond (is_within mask all) 1 0) ∙ ap (λ t. sets_within count all + cond t 1 0) e
+pub one-set-more : (count all : ℕ) (is : Bool)
+    → is_within count all ≡ is → sets_within (count + 1) all ≡ sets_within count all + cond is 1 0
+one-set-more count all is e = sum_over-numbers_push count (λ mask. cond (is_within mask all) 1 0)
+    ∙ ap (λ t. sets_within count all + cond t 1 0) e

@@ -8,7 +8,8 @@ use Rattle.halo_model.specs.Basis.{Basis}
 use Rattle.halo_model.specs.FromTables.{lives_of}
 use Rattle.halo_model.specs.Order.{Ties}
 
--- interest by years, lives in their tables, and a rule for ties; payments are looked at up to time 200
+-- interest by years, lives in their tables, and a rule for ties; payments are looked at up to time
+-- 200
 abbrev pub basis_of : TableFile → List Rate → List Life → Ties → Basis
 basis_of file rates lives ties = record {
   p = λ k. (rate_of rates k).p;

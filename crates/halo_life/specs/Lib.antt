@@ -1,5 +1,4 @@
 pub mod Lists
-pub mod Products
 pub mod Total
 pub mod PlainGroup
 pub mod YearOfSets

@@ -2,8 +2,8 @@
 use Rattle.std.specs.Prelude.{◌≡◌, ℕ, List, get_or, length, pos}
 use Rattle.halo_num.specs.Ends.{Ends}
 
--- what is worked on: the chances of a year, that all of a set survive it and that one of a set is the first to leave in it and
--- counts; and two values of each set, of which the second is taken off
+-- what is worked on: the chances of a year, that all of a set survive it and that one of a set is
+-- the first to leave in it and counts; and two values of each set, of which the second is taken off
 pub record Lists : Type 0 where
   pub survivals : List Ends
   pub leavings : List Ends

@@ -11,8 +11,8 @@ use Rattle.halo_model.specs.Life.{leavers_by}
 use Rattle.halo_model.specs.Order.{Ties, all_orders, declared_order}
 use Rattle.halo_life.specs.declared.group.TheConstants.{MOST_LIVES}
 
--- the tables, the lives in the declared order, a time, the mask of those that are alive then, and the
--- rule for those who leave in one year
+-- the tables, the lives in the declared order, a time, the mask of those that are alive then, and
+-- the rule for those who leave in one year
 pub record PlainGroup : Type 0 where
   pub file : TableFile
   pub lives : List Life
@@ -29,6 +29,10 @@ is_even all_orders = true
 abbrev pub ties_of : Bool → Ties
 ties_of even = cond even all_orders declared_order
 
+-- a life has a row at its age at a time
+abbrev pub HasRowAt : TableFile → List Life → ℕ → ℕ → Type 0
+HasRowAt file lives t i = HasRow file (life_at lives i).table ((life_at lives i).age + t)
+
 -- n lives at a time; each has a row at its age, and each that is alive at its age then
 pub record IsGroup (n : ℕ) (g : PlainGroup) : Type 0 where
   pub some : 1 ≤ n
@@ -38,7 +42,7 @@ pub record IsGroup (n : ℕ) (g : PlainGroup) : Type 0 where
   pub sound : IsSound g.file
   pub rows : (i : ℕ) → i < n → HasRow g.file (life_at g.lives i).table (life_at g.lives i).age
   pub alive_rows : (i : ℕ) → i < n → has_bit g.alive i ≡ true
-      → HasRow g.file (life_at g.lives i).table ((life_at g.lives i).age + g.start)
+      → HasRowAt g.file g.lives g.start i
 
 -- the survivors of a life at a time: l_(x+t)
 abbrev pub survivors_in : PlainGroup → ℕ → ℕ → ℕ
@@ -49,8 +53,8 @@ abbrev pub leavers_of_life : PlainGroup → (ℕ → Bool) → ℕ → ℕ → �
 leavers_of_life g causes k i =
     leavers_by causes (life_of g.file (life_at g.lives i).table (life_at g.lives i).age) k
 
--- the chances of a life are told in parts of its survivors at the group's time, and of 1 for a life that is not alive then: that it
--- is alive at time t, and that it leaves in year k
+-- the chances of a life are told in parts of its survivors at the group's time, and of 1 for a life
+-- that is not alive then: that it is alive at time t, and that it leaves in year k
 abbrev pub started : PlainGroup → ℕ → ℕ
 started g i = cond (has_bit g.alive i) (survivors_in g g.start i) 1
 

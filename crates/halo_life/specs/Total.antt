@@ -8,11 +8,15 @@ use Rattle.halo_life.specs.Lists.{Lists, entry, nothing}
 abbrev pub is_within : ℕ → ℕ → Bool
 is_within mask all = nat_eq (bit_and mask all) mask
 
--- what a set adds to the value on another: the entry of `plus` less that of `minus` where it is a subset, else nothing
+-- what a set adds to the value on another: the entry of `plus` less that of `minus` where it is a
+-- subset, else nothing
 abbrev pub share : Lists → ℕ → ℕ → Ends
 share w alive mask =
     cond (is_within mask alive)
-    (record { lo = (entry w.plus mask).lo -ℤ (entry w.minus mask).hi; hi = (entry w.plus mask).hi -ℤ (entry w.minus mask).lo })
+    (record {
+      lo = (entry w.plus mask).lo -ℤ (entry w.minus mask).hi;
+      hi = (entry w.plus mask).hi -ℤ (entry w.minus mask).lo;
+    })
     nothing
 
 -- the sum of the shares of m sets
@@ -22,6 +26,8 @@ total_of w m alive = record {
   hi = int_sum_over (numbers_from 0 m) (λ mask. (share w alive mask).hi);
 }
 
--- each of m entries of `plus` and `minus` is from 0 to 10^32 fine units, so that their sums stay below 10^36
+-- each of m entries of `plus` and `minus` is from 0 to 10^32 fine units, so that their sums stay
+-- below 10^36
 abbrev pub AreModest : ℕ → Lists → Type 0
-AreModest m w = (mask : ℕ) → mask < m → IsWithin (entry w.plus mask) (pos 0) (pos (10 ^ 32)) × IsWithin (entry w.minus mask) (pos 0) (pos (10 ^ 32))
+AreModest m w = (mask : ℕ) → mask < m → IsWithin (entry w.plus mask) (pos 0) (pos (10 ^ 32))
+    × IsWithin (entry w.minus mask) (pos 0) (pos (10 ^ 32))

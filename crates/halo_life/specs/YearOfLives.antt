@@ -18,8 +18,8 @@ use Rattle.halo_life.specs.PlainGroup.{PlainGroup}
 use Rattle.halo_life.specs.declared.year.Year.{Year}
 use Rattle.halo_life.specs.declared.year.YearOfLife.{YearOfLife}
 
--- Of some who are alive, so many leave and so many stay: both chances are enclosed. One of the two comes at most, so their lower
--- ends are at most 1 together.
+-- Of some who are alive, so many leave and so many stay: both chances are enclosed. One of the two
+-- comes at most, so their lower ends are at most 1 together.
 pub record EnclosesYear (leave stay alive : ℕ) (year : YearOfLife) : Type 0 where
   pub leaving : EnclosesChance leave alive 1 year.leaving
   pub staying : EnclosesChance stay alive 1 year.staying
@@ -34,7 +34,8 @@ abbrev pub numbers_of : PlainGroup → Year → YearNumbers
 numbers_of g year =
     year_numbers (has_bit year.counted) (asked year.causes) (lives_of g.file g.lives) year.k
 
--- the chances of each of n lives enclose its numbers, of which no more leave and stay than are alive
+-- the chances of each of n lives enclose its numbers, of which no more leave and stay than are
+-- alive
 pub record EncloseYears (n : ℕ) (numbers : YearNumbers) (lives : List YearOfLife) : Type 0 where
   pub parts : (i : ℕ) → numbers.leaving i + numbers.staying i ≤ numbers.alive i
   pub each : (i : ℕ) → i < n
@@ -63,18 +64,21 @@ abbrev pub HasSmaller : (ℕ → Ends → Type 0) → ℕ → List Ends → Type
 HasSmaller IsChance set list =
     (part : ℕ) → part < set → is_within part set ≡ true → IsChance part (entry list part)
 
--- Life b as the first of a set: it leaves and counts, and the others are alive; or it stays, and the first of the others to leave
--- counts.
+-- Life b as the first of a set: it leaves and counts, and the others are alive; or it stays, and
+-- the first of the others to leave counts.
 abbrev pub weight_as_first : Ties → ℕ → YearNumbers → (ℕ → Bool) → ℕ → ℕ
 weight_as_first ties n numbers S b =
-    numbers.leaving b * (length (orders_taken ties n) * product_over (lives_in n (without S b)) numbers.alive)
+    numbers.leaving b
+    * (length (orders_taken ties n) * product_over (lives_in n (without S b)) numbers.alive)
     + numbers.staying b * leavings_of_set ties n numbers (without S b)
 
 -- the chance of that, in the parts in which those of the set are told
-pub record EnclosesFirst (ties : Ties) (n : ℕ) (numbers : YearNumbers) (mask b : ℕ) (chance : Ends) : Type 0 where
+pub record EnclosesFirst
+    (ties : Ties) (n : ℕ) (numbers : YearNumbers) (mask b : ℕ) (chance : Ends) : Type 0 where
   pub encloses : Encloses chance
       (pos (weight_as_first ties n numbers (in_set (bits n mask)) b))
-      (length (orders_taken ties n) * product_over (lives_in n (in_set (bits n mask))) numbers.alive)
+      (length (orders_taken ties n)
+      * product_over (lives_in n (in_set (bits n mask))) numbers.alive)
   pub narrow : HasWidth chance (4 * (size_of (bits n mask) - 1) + 3)
   pub within : IsWithin chance (pos 0) (pos (2 * fine))
   pub low : chance.lo ≤ℤ pos fine

@@ -16,8 +16,8 @@ use halo_num::Ival;
 use halo_sums::has_bit;
 
 impl<'a, const N: usize> Group<'a, N> {
-    /// The probability that life `i` is alive at time `t`, at most 1 fine unit wide: exactly 0 for a
-    /// life that is not alive at the group's time, and exactly 1 at that time for one that is.
+    /// The probability that life `i` is alive at time `t`, at most 1 fine unit wide: exactly 0 for
+    /// a life that is not alive at the group's time, and exactly 1 at that time for one that is.
     pub fn survive(&self, i: u8, t: u16) -> Ival
         requires life { i < N }
         requires from { self.now.start ≤ t }
@@ -37,13 +37,14 @@ impl<'a, const N: usize> Group<'a, N> {
     }
 
     /// The probability that life `i` leaves in year `k`, at most 1 fine unit wide, by one of some
-    /// causes, or by any where there are none: exactly 0 for a life that is not alive at the group's
-    /// time.
+    /// causes, or by any where there are none: exactly 0 for a life that is not alive at the
+    /// group's time.
     pub fn leave(&self, i: u8, k: u16, causes: Option<u8>) -> Ival
         requires life { i < N }
         requires from { self.now.start ≤ k }
         requires time { k ≤ LAST_TIME }
-        ensures chance { EnclosesChance (leaving self.now (asked causes) k i) (started self.now i) 1 result }
+        ensures chance { EnclosesChance (leaving self.now (asked causes) k i)
+            (started self.now i) 1 result }
         ensures along_tree { has_bit self.now.alive i ≡ true →
             let lives = lives_of self.now.file self.now.lives in
             EnclosesChance (leavers_of (asked causes) k lives i)

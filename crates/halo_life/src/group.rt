@@ -6,7 +6,7 @@ ghost use Rattle.halo_model.specs.Chance.{asked};
 ghost use Rattle.halo_model.specs.FromTables.{HasRow};
 ghost use Rattle.halo_model.specs.Horizon.{life_at};
 ghost use Rattle.halo_model.specs.Order.{all_orders, declared_order};
-ghost use Rattle.halo_life.specs.PlainGroup.{IsGroup, is_even, leavers_of_life, survivors_in};
+ghost use Rattle.halo_life.specs.PlainGroup.{HasRowAt, IsGroup, is_even, leavers_of_life, survivors_in};
 
 use halo_interest::LAST_TIME;
 use halo_sums::has_bit;
@@ -16,8 +16,8 @@ use std::marker::Model;
 /// The greatest number of lives of a group.
 pub const MOST_LIVES: usize = 12;
 
-/// N lives of some tables at a time, of which a set is alive then, and the rule for the order in which
-/// those leave that leave in one year.
+/// N lives of some tables at a time, of which a set is alive then, and the rule for the order in
+/// which those leave that leave in one year.
 #[derive(Drop)]
 pub struct Group<'a, const N: usize> {
     tables: &'a Tables,
@@ -50,8 +50,8 @@ impl<'a, const N: usize> Model for Group<'a, N> {
 }
 
 impl<'a, const N: usize> Group<'a, N> {
-    /// N lives at time `start`, at which those of the set `alive` are alive. Those who leave in one year
-    /// leave in the declared order.
+    /// N lives at time `start`, at which those of the set `alive` are alive. Those who leave in one
+    /// year leave in the declared order.
     pub fn new(tables: &'a Tables, lives: &'a [Life], start: u16, alive: u16) -> Group<'a, N>
         requires some { 1 ≤ N }
         requires few { N ≤ MOST_LIVES }
@@ -60,7 +60,7 @@ impl<'a, const N: usize> Group<'a, N> {
         requires rows { (i : ℕ) → i < N →
             HasRow tables.now (life_at lives.now i).table (life_at lives.now i).age }
         requires alive_rows { (i : ℕ) → i < N → has_bit alive i ≡ true →
-            HasRow tables.now (life_at lives.now i).table ((life_at lives.now i).age + start) }
+            HasRowAt tables.now lives.now start i }
         ensures { result ≡ record {
           file = tables.now;
           lives = lives.now;
@@ -133,8 +133,8 @@ impl<'a, const N: usize> Group<'a, N> {
         self.alive
     }
 
-    /// The same lives at another time, with all of those alive that have a row at their age then. The
-    /// rule for those who leave in one year stays.
+    /// The same lives at another time, with all of those alive that have a row at their age then.
+    /// The rule for those who leave in one year stays.
     pub fn at(&self, start: u16) -> Group<'a, N>
         requires { start ≤ LAST_TIME }
         ensures file { result.file ≡ self.now.file }
@@ -185,10 +185,8 @@ impl<'a, const N: usize> Group<'a, N> {
         ensures value { result ≡ survivors_in self.now t i }
         ensures small { result ≤ 1000000000000 }
         ensures falling { (earlier : ℕ) → earlier ≤ t → result ≤ survivors_in self.now earlier i }
-        ensures row { 1 ≤ result →
-            HasRow self.now.file (life_at self.now.lives i).table ((life_at self.now.lives i).age + t) }
-        ensures some { HasRow self.now.file (life_at self.now.lives i).table ((life_at self.now.lives i).age + t) →
-            1 ≤ result }
+        ensures row { 1 ≤ result → HasRowAt self.now.file self.now.lives t i }
+        ensures some { HasRowAt self.now.file self.now.lives t i → 1 ≤ result }
         ensures group { IsGroup N self.now }
     {
         let life = self.lives[i as usize];

@@ -1,8 +1,8 @@
-//! Lives of a contract at a time: the chances that they survive or leave, for one life and for all sets
-//! of lives at once.
+//! Lives of a contract at a time: the chances that they survive or leave, for one life and for all
+//! sets of lives at once.
 //!
-//! A set of lives is a mask, life i as bit i. Chances are intervals of fine units, 10^-18 each, that
-//! round outward.
+//! A set of lives is a mask, life i as bit i. Chances are intervals of fine units, 10^-18 each,
+//! that round outward.
 #![tactic(auto)]
 
 mod averaging;

@@ -19,7 +19,8 @@ use halo_sums::has_bit;
 use std::sync::ledger::Ledger;
 
 impl<'a, const N: usize> Group<'a, N> {
-    // The chance that all of a set survive the year: that its first life does, times that of the others.
+    // The chance that all of a set survive the year: that its first life does, times that of the
+    // others.
     pub(crate) fn survival_of_set<const M: usize, L: Ledger>(
         &self,
         year: &Year,
@@ -31,7 +32,8 @@ impl<'a, const N: usize> Group<'a, N> {
         requires some { 0 < set }
         requires below { set < M }
         requires years { EncloseYears N (numbers_of self.now year.now) year.now.lives }
-        requires smaller { HasSmaller (EnclosesSurvival N (numbers_of self.now year.now)) set work.now.survivals }
+        requires smaller { HasSmaller
+            (EnclosesSurvival N (numbers_of self.now year.now)) set work.now.survivals }
         ensures survival { EnclosesSurvival N (numbers_of self.now year.now) set result }
         ensures cost { steps.new ≡ steps.old + 1 }
     {
@@ -55,7 +57,8 @@ impl<'a, const N: usize> Group<'a, N> {
         requires years { EncloseYears N (numbers_of self.now year.now) year.now.lives }
         requires smaller { HasSmaller
             (EnclosesLeaving self.now.ties N (numbers_of self.now year.now)) set work.now.leavings }
-        ensures leaving { EnclosesLeaving self.now.ties N (numbers_of self.now year.now) set result }
+        ensures leaving { EnclosesLeaving self.now.ties N
+            (numbers_of self.now year.now) set result }
         ensures cost { steps.new ≤
             steps.old + cond (is_even self.now.ties) (size_of (bits N set)) 1 }
     {
@@ -67,7 +70,8 @@ impl<'a, const N: usize> Group<'a, N> {
         }
     }
 
-    // The same where each life of the set is the first of it with equal chance: the mean over its lives.
+    // The same where each life of the set is the first of it with equal chance: the mean over its
+    // lives.
     fn leaving_evenly<const M: usize, L: Ledger>(
         &self,
         year: &Year,
@@ -96,8 +100,8 @@ impl<'a, const N: usize> Group<'a, N> {
         mean(sum, count).clamp(0, ONE_IN_FINE_UNITS)
     }
 
-    // The chance of a set where a life is the first of it: it leaves and counts, or it stays and the
-    // first of the others to leave counts.
+    // The chance of a set where a life is the first of it: it leaves and counts, or it stays and
+    // the first of the others to leave counts.
     fn as_first<const M: usize, L: Ledger>(
         &self,
         year: &Year,
@@ -113,7 +117,8 @@ impl<'a, const N: usize> Group<'a, N> {
         requires years { EncloseYears N (numbers_of self.now year.now) year.now.lives }
         requires smaller { HasSmaller
             (EnclosesLeaving self.now.ties N (numbers_of self.now year.now)) set work.now.leavings }
-        ensures first { EnclosesFirst self.now.ties N (numbers_of self.now year.now) set life result }
+        ensures first { EnclosesFirst self.now.ties N
+            (numbers_of self.now year.now) set life result }
         ensures cost { steps.new ≡ steps.old + 1 }
     {
         let _ = self.count();

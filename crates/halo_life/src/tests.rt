@@ -13,8 +13,8 @@ use std::rt::HostRuntime;
 use std::sync::ledger::{Blank, Ledger};
 use std::test::Fail;
 
-// In the first year half of those at 60 in m leave, half of these by lapse, and one in ten in n; at 62
-// in m the last one leaves.
+// In the first year half of those at 60 in m leave, half of these by lapse, and one in ten in n; at
+// 62 in m the last one leaves.
 const TABLES: &[u8] = b"table,age,l,death,lapse\n\
     m,60,4,1,1\nm,61,2,1,0\nm,62,1,1,0\nn,60,10,1,0\nn,61,9,9,0\n";
 

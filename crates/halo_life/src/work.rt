@@ -10,9 +10,9 @@ use halo_num::Ival;
 use std::alloc::Global;
 use std::marker::Model;
 
-/// Four lists of M intervals, one entry for each set of lives: the chances of a year, `survivals` and
-/// `leavings`, and two values of each set, `plus` and `minus`, of which the second is taken off the
-/// first.
+/// Four lists of M intervals, one entry for each set of lives: the chances of a year, `survivals`
+/// and `leavings`, and two values of each set, `plus` and `minus`, of which the second is taken off
+/// the first.
 #[derive(Drop)]
 pub struct Work<const M: usize> {
     survivals: Vec<Ival>,

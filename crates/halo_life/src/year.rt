@@ -47,8 +47,9 @@ impl Year {
 }
 
 impl<'a, const N: usize> Group<'a, N> {
-    /// For each set of named lives that are all alive at time `k`, the probability that all of them are
-    /// alive at k + 1, at most 2 fine units wide for each life of the set: the entry of `survivals`.
+    /// For each set of named lives that are all alive at time `k`, the probability that all of them
+    /// are alive at k + 1, at most 2 fine units wide for each life of the set: the entry of
+    /// `survivals`.
     ///
     /// The counter is raised by one less than there are sets. No other list changes.
     pub fn survivals<const M: usize, L: Ledger>(
@@ -60,7 +61,8 @@ impl<'a, const N: usize> Group<'a, N> {
     )
         requires sets { M ≡ 2 ^ N }
         requires year { k < LAST_TIME }
-        ensures chances { EncloseSurvivals N (lives_of self.now.file self.now.lives) k named into.new.survivals }
+        ensures chances { EncloseSurvivals N (lives_of self.now.file self.now.lives) k named
+            into.new.survivals }
         ensures leavings { into.new.leavings ≡ into.old.leavings }
         ensures plus { into.new.plus ≡ into.old.plus }
         ensures minus { into.new.minus ≡ into.old.minus }
@@ -76,14 +78,14 @@ impl<'a, const N: usize> Group<'a, N> {
         }
     }
 
-    /// For each set of named lives that are all alive at time `k`, the probability that the first of
-    /// them to leave in year `k` is one of those counted and leaves by one of some causes, or by any
-    /// where there are none, at most 4 fine units wide for each life of the set: the entry of
+    /// For each set of named lives that are all alive at time `k`, the probability that the first
+    /// of them to leave in year `k` is one of those counted and leaves by one of some causes, or by
+    /// any where there are none, at most 4 fine units wide for each life of the set: the entry of
     /// `leavings`. Who leaves first is told by the group's rule: by the declared order, or by each
     /// order with equal chance.
     ///
-    /// The counter is raised by at most one for each set in the declared order, and by at most one for
-    /// each named life and set with the even rule. No other list changes.
+    /// The counter is raised by at most one for each set in the declared order, and by at most one
+    /// for each named life and set with the even rule. No other list changes.
     pub fn leavings<const M: usize, L: Ledger>(
         &self,
         k: u16,
@@ -95,8 +97,9 @@ impl<'a, const N: usize> Group<'a, N> {
     )
         requires sets { M ≡ 2 ^ N }
         requires year { k < LAST_TIME }
-        ensures chances { EncloseLeavings self.now.ties N (lives_of self.now.file self.now.lives) k named counted
-            (asked causes) into.new.leavings }
+        ensures chances { EncloseLeavings self.now.ties N
+            (lives_of self.now.file self.now.lives) k named counted (asked causes)
+            into.new.leavings }
         ensures survivals { into.new.survivals ≡ into.old.survivals }
         ensures plus { into.new.plus ≡ into.old.plus }
         ensures minus { into.new.minus ≡ into.old.minus }

@@ -20,7 +20,8 @@ returns-clause-narrow g c = λ q p d n m v leaving staying others.
 pub returns-clause-low : goal.returns-clause-low
 returns-clause-low g c =
     let low : c.args.others.lo ≤ℤ pos fine = omega (arith, ints, c.lo-lowest.ensures.order, c.requires.others.high) in
-    let share = floor-share c.mul.result.lo c.args.life.staying.lo c.args.others.lo c.mul.ensures.low c.requires.staying.low low in
+    let share = floor-share
+    c.mul.result.lo c.args.life.staying.lo c.args.others.lo c.mul.ensures.low c.requires.staying.low low in
     omega (arith, ints, c.add.ensures.lo, share, c.requires.together)
 
 pub add-requires-clause-o_in : goal.add-requires-clause-o_in

@@ -13,6 +13,7 @@ pub returns-clause-first : goal.returns-clause-first
 returns-clause-first c = λ i there.
     let low = bit_at-trailing_zeros w16 c.args.set c.requires c.ranges.set.fits in
     ⊎_elim
-    (λ (before : i < count_trailing_zeros 16 c.args.set). absurd (let none = low.2 i before in let zero_is_one : nat_eq 0 1 ≡ true = rw none at there in cc))
+    (λ (before : i < count_trailing_zeros 16 c.args.set). absurd
+    (let none = low.2 i before in let zero_is_one : nat_eq 0 1 ≡ true = rw none at there in cc))
     (λ h. h)
     (cases_lt i (count_trailing_zeros 16 c.args.set))

@@ -17,5 +17,9 @@ returns-clause-along_tree g c = λ alive.
     let low : c.args.i < length group.lives = omega (arith, c.requires.life, c.alive.ensures.group.count) in
     let chance : EnclosesChance c.leavers.result c.survivors.result 1 c.ratio.result =
     record { encloses = c.ratio.ensures.encloses; narrow = c.ratio.ensures.narrow; within = c.ratio.ensures.within } in
-    rw (leavers-is group.file (asked c.args.causes) c.args.k group.lives c.args.i low, started-is group.file group.start (has_bit group.alive) group.lives c.args.i low, alive)
+    rw (
+      leavers-is group.file (asked c.args.causes) c.args.k group.lives c.args.i low,
+      started-is group.file group.start (has_bit group.alive) group.lives c.args.i low,
+      alive,
+    )
     (rw (c.leavers.ensures.value, c.survivors.ensures.value, c.start.ensures.value) at chance)

@@ -10,7 +10,8 @@ use Rattle.halo_life.proofs.group.Group.leavers.Goals as goal
 pub loop-cause-preserved : goal.loop-cause-preserved
 loop-cause-preserved g c =
     let life = life_at c.args.self.now.lives c.args.i in
-    let next = sum_over-numbers_push c.loop-cause.cause (λ j. cond (asked c.args.causes j) (leavers_at c.args.self.now.file life.table (life.age + c.args.k) j) 0) in
+    let next = sum_over-numbers_push c.loop-cause.cause
+    (λ j. cond (asked c.args.causes j) (leavers_at c.args.self.now.file life.table (life.age + c.args.k) j) 0) in
     record {
       sum = omega (arith, next, c.loop-cause.invariant.sum, c.leavers_if_asked-leavers.ensures.count);
       small = omega (arith, c.loop-cause.invariant.small, c.leavers_if_asked-leavers.ensures.small);
@@ -19,13 +20,25 @@ loop-cause-preserved g c =
 pub returns-clause-value : goal.returns-clause-value
 returns-clause-value g c =
     let end : c.loop-cause.cause ≡ length c.args.self.now.file.causes =
-    omega (arith, c.loop-cause-test.false, c.causes-cause-end.ensures.all, ap (λ file. length file.causes) c.tables-tables.ensures.value) in
+    omega (
+      arith,
+      c.loop-cause-test.false,
+      c.causes-cause-end.ensures.all,
+      ap (λ file. length file.causes) c.tables-tables.ensures.value,
+    ) in
     rw end at c.loop-cause.invariant.sum
 
 pub returns-clause-part : goal.returns-clause-part
 returns-clause-part g c =
     let end : c.loop-cause.cause ≡ length c.args.self.now.file.causes =
-    omega (arith, c.loop-cause-test.false, c.causes-cause-end.ensures.all, ap (λ file. length file.causes) c.tables-tables.ensures.value) in
-    let value : c.loop-cause.leavers ≡ leavers_of_life c.args.self.now (asked c.args.causes) c.args.k c.args.i = rw end at c.loop-cause.invariant.sum in
+    omega (
+      arith,
+      c.loop-cause-test.false,
+      c.causes-cause-end.ensures.all,
+      ap (λ file. length file.causes) c.tables-tables.ensures.value,
+    ) in
+    let value : c.loop-cause.leavers ≡ leavers_of_life c.args.self.now (asked c.args.causes) c.args.k c.args.i =
+    rw end at c.loop-cause.invariant.sum in
     let next : c.args.k + 1 ≡ suc c.args.k = omega arith in
-    rw (value, next) (group-splits g.row.N c.args.self.now c.tables-tables.ensures.group (asked c.args.causes) c.args.k c.args.i c.requires.life)
+    rw (value, next) (group-splits g.row.N c.args.self.now c.tables-tables.ensures.group
+    (asked c.args.causes) c.args.k c.args.i c.requires.life)

@@ -22,7 +22,8 @@ loop-life-preserved g c =
     elim c.if-has_bit.branch [
       | then-has_bit w ↦
           let there : has_bit set life ≡ true = sym c.has_bit.ensures ∙ w.if-has_bit.true in
-          let first : EnclosesFirst all_orders n numbers set life w.as_first.result = rw c.requires.rule at w.as_first.ensures.first in
+          let first : EnclosesFirst all_orders n numbers set life w.as_first.result =
+          rw c.requires.rule at w.as_first.ensures.first in
           record {
             count = omega (arith, w.count-is, i.count, count-with n numbers set life low true there);
             few = omega (arith, w.count-is, i.few);
@@ -31,7 +32,8 @@ loop-life-preserved g c =
               high = omega (arith, ints, w.add-sum.ensures.hi, i.within.high, first.within.high);
             });
             low = rw (w.sum-is, w.count-is) (omega (arith, ints, w.add-sum.ensures.lo, i.low, first.low));
-            part = rw w.sum-is (sum-with n numbers set life c.loop-life.sum w.as_first.result w.add-sum.result low there first w.add-sum.ensures.encloses w.add-sum.ensures.narrow i.part);
+            part = rw w.sum-is (sum-with n numbers set life c.loop-life.sum w.as_first.result
+                w.add-sum.result low there first w.add-sum.ensures.encloses w.add-sum.ensures.narrow i.part);
             cost = omega (arith, w.steps-is, w.count-is, w.as_first.ensures.cost, i.cost);
           }
       | else-has_bit w ↦
@@ -51,9 +53,12 @@ mean-requires g c =
     let n = g.row.N in
     let end : c.loop-life.life ≡ n = omega (arith, c.loop-life-test.false, c.count-life-end.ensures.value) in
     let below : c.args.set < 2 ^ n = omega (arith, c.requires.below, c.requires.sets) in
-    let count : c.loop-life.count ≡ length (filter (in_set (bits n c.args.set)) (numbers_from 0 n)) = rw end at c.loop-life.invariant.count in
-    let some : 1 ≤ c.loop-life.count = omega (arith, count, size-of-lives n c.args.set, size-some n c.args.set c.requires.some below) in
-    let few : c.loop-life.count ≤ 12 = omega (arith, end, c.loop-life.invariant.few, c.count-life-end.ensures.group.few) in
+    let count : c.loop-life.count ≡ length (filter (in_set (bits n c.args.set)) (numbers_from 0 n)) =
+    rw end at c.loop-life.invariant.count in
+    let some : 1 ≤ c.loop-life.count =
+    omega (arith, count, size-of-lives n c.args.set, size-some n c.args.set c.requires.some below) in
+    let few : c.loop-life.count ≤ 12 =
+    omega (arith, end, c.loop-life.invariant.few, c.count-life-end.ensures.group.few) in
     record {
       from = c.loop-life.invariant.within.low;
       to = omega (arith, ints, c.loop-life.invariant.within.high, few);
@@ -67,16 +72,21 @@ returns-clause-leaving g c =
     let numbers = numbers_of c.args.self.now c.args.year.now in
     let end : c.loop-life.life ≡ n = omega (arith, c.loop-life-test.false, c.count-life-end.ensures.value) in
     let below : c.args.set < 2 ^ n = omega (arith, c.requires.below, c.requires.sets) in
-    let count : c.loop-life.count ≡ length (filter (in_set (bits n c.args.set)) (numbers_from 0 n)) = rw end at c.loop-life.invariant.count in
-    let some : 1 ≤ c.loop-life.count = omega (arith, count, size-of-lives n c.args.set, size-some n c.args.set c.requires.some below) in
+    let count : c.loop-life.count ≡ length (filter (in_set (bits n c.args.set)) (numbers_from 0 n)) =
+    rw end at c.loop-life.invariant.count in
+    let some : 1 ≤ c.loop-life.count =
+    omega (arith, count, size-of-lives n c.args.set, size-some n c.args.set c.requires.some below) in
     let part : IsSumTo n numbers c.args.set n c.loop-life.sum = rw end at c.loop-life.invariant.part in
-    let cut : IsCut c.mean.result c.clamp.result = record { lo = c.clamp.ensures.lo; hi = c.clamp.ensures.hi; encloses = c.clamp.ensures.encloses } in
-    evenly-enclosed n numbers c.args.set c.requires.years.parts c.loop-life.count count some c.loop-life.sum c.mean.result c.clamp.result part
+    let cut : IsCut c.mean.result c.clamp.result =
+    record { lo = c.clamp.ensures.lo; hi = c.clamp.ensures.hi; encloses = c.clamp.ensures.encloses } in
+    evenly-enclosed n numbers
+    c.args.set c.requires.years.parts c.loop-life.count count some c.loop-life.sum c.mean.result c.clamp.result part
     c.mean.ensures.from c.mean.ensures.encloses c.mean.ensures.narrow cut
 
 pub returns-clause-cost : goal.returns-clause-cost
 returns-clause-cost g c =
     let n = g.row.N in
     let end : c.loop-life.life ≡ n = omega (arith, c.loop-life-test.false, c.count-life-end.ensures.value) in
-    let count : c.loop-life.count ≡ length (filter (in_set (bits n c.args.set)) (numbers_from 0 n)) = rw end at c.loop-life.invariant.count in
+    let count : c.loop-life.count ≡ length (filter (in_set (bits n c.args.set)) (numbers_from 0 n)) =
+    rw end at c.loop-life.invariant.count in
     omega (arith, count, size-of-lives n c.args.set, c.loop-life.invariant.cost)

@@ -13,6 +13,7 @@ invariant-loop-set g l = record {
   survivals : l.into.survivals ≡ l.initial.into.survivals;
   plus : l.into.plus ≡ l.initial.into.plus;
   minus : l.into.minus ≡ l.initial.into.minus;
-  cost : l.steps ≤ l.initial.steps + cond (is_even l.self.ties) (size_of (bits g.row.N l.named)) 1 * sets_within l.set l.named;
+  cost : l.steps
+      ≤ l.initial.steps + cond (is_even l.self.ties) (size_of (bits g.row.N l.named)) 1 * sets_within l.set l.named;
   some : 1 ≤ l.set;
 }

@@ -13,7 +13,9 @@ pub loop-set-init : goal.loop-set-init
 loop-set-init g c = record {
   sets = λ mask below within.
       let here : mask ≡ 0 = omega arith in
-      rw (here, c.put_survival.ensures.written) (survival-of-nobody g.row.N (numbers_of c.args.self.now c.year_of_lives-year.result) c.exact.result c.exact.ensures.lo c.exact.ensures.hi);
+      rw (here, c.put_survival.ensures.written)
+      (survival-of-nobody g.row.N (numbers_of c.args.self.now c.year_of_lives-year.result)
+      c.exact.result c.exact.ensures.lo c.exact.ensures.hi);
   leavings = refl;
   plus = refl;
   minus = refl;
@@ -35,7 +37,8 @@ survival_of_set-chance-requires g c =
               c.loop-set-test.true,
               (
                 c.year_of_lives-year.ensures.years,
-                λ part less inside. c.loop-set.invariant.sets part less (within-both part c.loop-set.set c.args.named inside within),
+                λ part less inside. c.loop-set.invariant.sets part less
+                    (within-both part c.loop-set.set c.args.named inside within),
               ),
             ),
           ),
@@ -53,12 +56,19 @@ loop-set-preserved g c =
           let within = is-within set c.args.named w.if-set-named.true in
           let put = w.put_survival-then-set-named.ensures in
           record {
-            sets = rw w.into-is (filled-with IsChance c.args.named set c.loop-set.into.survivals w.put_survival-then-set-named.new.self.survivals w.survival_of_set-chance.result
+            sets = rw w.into-is (filled-with IsChance c.args.named set c.loop-set.into.survivals
+                w.put_survival-then-set-named.new.self.survivals w.survival_of_set-chance.result
                 i.sets w.survival_of_set-chance.ensures.survival put.written put.others);
             leavings = rw w.into-is (put.leavings ∙ i.leavings);
             plus = rw w.into-is (put.plus ∙ i.plus);
             minus = rw w.into-is (put.minus ∙ i.minus);
-            cost = omega (arith, w.steps-is, w.survival_of_set-chance.ensures.cost, i.cost, one-set-more set c.args.named true within);
+            cost = omega (
+              arith,
+              w.steps-is,
+              w.survival_of_set-chance.ensures.cost,
+              i.cost,
+              one-set-more set c.args.named true within,
+            );
             some = omega arith;
           }
       | else-set-named w ↦
@@ -81,10 +91,12 @@ returns-clause-chances g c = λ mask below within.
     let count : length lives ≡ n = length-lives n c.args.self.now group in
     let same = length-bits n mask in
     let chance = c.loop-set.invariant.sets mask (omega (arith, below, c.requires.sets, c.loop-set-test.false)) within in
-    rw (joint-is n (suc c.args.k) lives (bits n mask) count same, joint-is n c.args.k lives (bits n mask) count same) (rw (c.year_of_lives-year.ensures.k) at chance)
+    rw (joint-is n (suc c.args.k) lives (bits n mask) count same, joint-is n c.args.k lives (bits n mask) count same)
+    (rw (c.year_of_lives-year.ensures.k) at chance)
 
 pub returns-clause-cost : goal.returns-clause-cost
 returns-clause-cost g c =
-    let end : c.loop-set.set ≡ 2 ^ g.row.N = omega (arith, c.loop-set-test.false, c.requires.sets, c.loop-set.auto.set-end, some-sets g.row.N) in
+    let end : c.loop-set.set ≡ 2 ^ g.row.N =
+    omega (arith, c.loop-set-test.false, c.requires.sets, c.loop-set.auto.set-end, some-sets g.row.N) in
     let cost = rw end at c.loop-set.invariant.cost in
     cost ∙ ap (λ k. c.args.steps.now + k) (all-sets-within g.row.N c.args.named)
