@@ -16,9 +16,6 @@ pub record IsBuilt {m : ℕ} (pay : PlainPay) (n first from end : ℕ) (segments
   pub ended : from ≡ end → AreSegmentsFrom pay n first (end - 1) (map run_of segments)
   pub have : HaveCoefficients pay n segments
 
-pub none_built : {m : ℕ} (pay : PlainPay) (n first end : ℕ) → first < end → IsBuilt {m = m} pay n first first end []
-none_built pay n first end h = record { going = λ q last rest are. are; ended = λ e. absurd (omega arith); have = tt }
-
 map-push : {m : ℕ} (segments : List (Segment m)) (s : Segment m)
     → map run_of (segments ++ s ∷ []) ≡ map run_of segments ++ run_of s ∷ []
 map-push [] s = refl

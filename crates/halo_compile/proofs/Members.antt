@@ -45,7 +45,3 @@ module _ (alive on : ℕ → Bool) where
   no_member_there [] i h = refl
   no_member_there (s ∷ ms) zero h = absurd (omega arith)
   no_member_there (s ∷ ms) (suc i) h = no_member_there ms i (omega arith)
-
-  pub length-each_exists : (ms : List Status) → length (each_exists alive on (trees_in ms)) ≡ length ms
-  length-each_exists [] = refl
-  length-each_exists (s ∷ ms) = ap suc (length-each_exists ms)

@@ -1,12 +1,12 @@
 -- A pay exists on the same sets of lives as a year before, unless one of its terms ends.
-use Rattle.std.proofs.Common.{◌≡◌, ◌≢◌, ℕ, ◌-◌, ◌≤◌, arith, refl, ap, sym, ◌∙◌, List, ◌∷◌, Bool, true, false, ◌||◌, Option, Some, None}
+use Rattle.std.proofs.Common.{◌≡◌, ◌≢◌, ℕ, ◌-◌, ◌≤◌, arith, refl, ap, sym, ◌∙◌, List, Bool, true, false, Option, Some, None}
 use Rattle.std.proofs.lemmas.Bool.{false≢true}
 use Rattle.std.proofs.lemmas.Bool.Decides.{nat_tests}
 use Rattle.halo_sums.specs.Sums.{indicator}
 use Rattle.halo_sums.specs.Sets.{in_set}
-use Rattle.halo_status.specs.Tree.{Tree, Trees, life, term, joint, last, at_least, exactly, after, none, more}
-use Rattle.halo_status.specs.Exists.{each_exists, exists}
-use Rattle.halo_status.specs.Naming.{any_names_term, names_term}
+use Rattle.halo_status.specs.Tree.{Tree, life, term, joint, last, at_least, exactly, after}
+use Rattle.halo_status.specs.Exists.{each_exists}
+use Rattle.halo_status.specs.Naming.{names_term}
 use Rattle.halo_status.specs.Pay.{PlainPay}
 use Rattle.halo_status.specs.View.{is_on}
 use Rattle.halo_status.specs.declared.pay.Mark.{Mark}
@@ -14,7 +14,7 @@ use Rattle.halo_status.specs.declared.pay.Kind.{Kind}
 use Rattle.halo_status.specs.declared.pay.Kind.TheVariants.{Insurance, Due as DuePay, Immediate as ImmediatePay}
 use Rattle.halo_model.specs.Coefficient.{existence, exists_by_mark, view_of, waits_at_rank}
 use Rattle.halo_model.specs.Payment.{members_of}
-use Rattle.halo_model.proofs.Agreement.{agree}
+use Rattle.halo_model.proofs.Agreement.{agree, each-agree}
 use Rattle.halo_compile.specs.Terms.{last_term}
 
 -- a term of another length is on as a year before
@@ -24,26 +24,10 @@ other_term Insurance t n h ne = grind (arith, nat_tests)
 other_term DuePay t n h ne = grind (arith, nat_tests)
 other_term ImmediatePay t n h ne = grind (arith, nat_tests)
 
-either_left : (a b : Bool) → a ≡ true → (a || b) ≡ true
-either_left true b e = refl
-either_left false b e = absurd (cc)
-
-either_right : (a b : Bool) → b ≡ true → (a || b) ≡ true
-either_right true b e = refl
-either_right false b e = e
-
 module _ (alive on before : ℕ → Bool) where
-  each_same : (ms : Trees) → ((n : ℕ) → any_names_term n ms ≡ true → on n ≡ before n)
-      → each_exists alive on ms ≡ each_exists alive before ms
-  each_same none h = refl
-  each_same (more s ms) h =
-      ap (λ b. b ∷ each_exists alive on ms)
-      (agree alive alive on before s (λ i e. refl) (λ n e. h n (either_left _ _ e)))
-      ∙ ap (λ bs. exists alive before s ∷ bs) (each_same ms (λ n e. h n (either_right (names_term n s) _ e)))
-
   members_agree : (body : Tree) → ((n : ℕ) → names_term n body ≡ true → on n ≡ before n)
       → each_exists alive on (members_of body) ≡ each_exists alive before (members_of body)
-  members_agree (joint ms) h = each_same ms h
+  members_agree (joint ms) h = each-agree alive alive on before ms (λ i e. refl) h
   members_agree (life i) h = refl
   members_agree (term n) h = refl
   members_agree (last ms) h = refl

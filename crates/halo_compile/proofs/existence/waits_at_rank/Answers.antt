@@ -5,7 +5,8 @@ use Rattle.halo_status.specs.Exists.{each_exists}
 use Rattle.halo_status.specs.StatusTree.{trees_in}
 use Rattle.halo_status.specs.View.{is_on}
 use Rattle.halo_status.proofs.Words.{has_bit-and}
-use Rattle.halo_compile.proofs.Members.{length-each_exists, waiting}
+use Rattle.halo_status.proofs.Counts.{length-each_exists}
+use Rattle.halo_compile.proofs.Members.{waiting}
 use Rattle.halo_compile.proofs.existence.waits_at_rank.Goals as goal
 
 pub returns : goal.returns
