@@ -2,7 +2,8 @@
 use Rattle.std.proofs.Common.{◌≡◌, ℕ, suc, ◌+◌, ◌-◌, ◌<◌, ◌≤◌, ◌++◌, List, append_assoc, append-nil, arith, sym, ◌∙◌}
 use Rattle.halo_report.specs.ColumnsText.{lines_from}
 
-module _ (line : ℕ → List ℕ) (i end : ℕ) (before all : List ℕ) (so_far : before ++ lines_from line i (end - i) ≡ all) where
+module _ (line : ℕ → List ℕ) (i end : ℕ) (before all : List ℕ) (so_far : before ++ lines_from line i (end - i) ≡ all)
+    where
   pub next-line : i < end → (before ++ line i) ++ lines_from line (i + 1) (end - (i + 1)) ≡ all
   next-line more =
       let left : end - i ≡ suc (end - suc i) = omega arith in

@@ -38,6 +38,10 @@ is-ceiling (negsuc n) = record { reached = omega (arith, ints); nearest = omega 
 
 pub printed-entries-enclose : PrintedEntriesEnclose
 printed-entries-enclose c entry w most i e = record {
-  encloses = printed_encloses i (floor_of i.lo) (ceiling_of i.hi) (pos entry) _ (is-floor i.lo) (is-ceiling i.hi) e.encloses;
-  narrow = let n = width_printed (floor_of i.lo) (ceiling_of i.hi) i.lo i.hi w (is-floor i.lo) (is-ceiling i.hi) e.narrow.near in omega (arith, ints, n);
+  encloses = printed_encloses i (floor_of i.lo) (ceiling_of i.hi) (pos entry) _ (is-floor i.lo) (is-ceiling i.hi)
+      e.encloses;
+  narrow =
+      let near = width_printed (floor_of i.lo) (ceiling_of i.hi) i.lo i.hi w (is-floor i.lo) (is-ceiling i.hi)
+          e.narrow.near in
+      omega (arith, ints, near);
 }

@@ -4,6 +4,7 @@ use Rattle.std.proofs.lemmas.Int.{ints}
 use Rattle.halo_num.specs.Ends.{Ends, IsWithin, printed}
 use Rattle.halo_num.specs.Rounding.{IsCeiling, IsFloor}
 use Rattle.halo_num.specs.declared.nano.Nano.{Nano}
+use Rattle.halo_report.specs.ColumnsText.{IsPrintableEntry}
 use Rattle.halo_report.specs.Lines.{IsPrintable}
 use Rattle.halo_report.specs.Printed.{ceiling_of, floor_of, printed_of}
 
@@ -14,19 +15,29 @@ floor-is (pos r) (negsuc n) f = absurd (omega (arith, ints, f.reached, f.nearest
 floor-is (negsuc r) (negsuc n) f = let e : r ≡ n / printed = omega (arith, ints, f.reached, f.nearest) in ap negsuc e
 
 ceiling-is : (r z : ℤ) → IsCeiling r z (pos printed) → r ≡ ceiling_of z
-ceiling-is (pos r) (pos n) f = let e : r ≡ (n + 999_999_999) / printed = omega (arith, ints, f.reached, f.nearest) in ap pos e
+ceiling-is (pos r) (pos n) f =
+    let e : r ≡ (n + 999_999_999) / printed = omega (arith, ints, f.reached, f.nearest) in ap pos e
 ceiling-is (negsuc r) (pos n) f = absurd (omega (arith, ints, f.reached, f.nearest))
 ceiling-is (pos r) (negsuc n) f =
     let none : r ≡ 0 = omega (arith, ints, f.reached, f.nearest) in
     let e : suc n / printed ≡ 0 = omega (arith, ints, f.reached, f.nearest) in
     rw (none, e) refl
-ceiling-is (negsuc r) (negsuc n) f = let e : suc n / printed ≡ suc r = omega (arith, ints, f.reached, f.nearest) in rw e refl
+ceiling-is (negsuc r) (negsuc n) f =
+    let e : suc n / printed ≡ suc r = omega (arith, ints, f.reached, f.nearest) in rw e refl
 
-pub nano-is : (i : Ends) (ends : Nano) → IsFloor ends.lo i.lo (pos printed) → IsCeiling ends.hi i.hi (pos printed) → ends ≡ printed_of i
+pub nano-is : (i : Ends) (ends : Nano) → IsFloor ends.lo i.lo (pos printed) → IsCeiling ends.hi i.hi (pos printed)
+    → ends ≡ printed_of i
 nano-is i ends low high = rw (← floor-is ends.lo i.lo low, ← ceiling-is ends.hi i.hi high) refl
 
-pub nano-fits : (i : Ends) (ends : Nano) → i.lo ≤ℤ i.hi → IsWithin i (pos 0) (pos (10 ^ 35)) → IsFloor ends.lo i.lo (pos printed) → IsCeiling ends.hi i.hi (pos printed) → IsPrintable ends
+pub nano-fits : (i : Ends) (ends : Nano) → i.lo ≤ℤ i.hi → IsPrintableEntry i
+    → IsFloor ends.lo i.lo (pos printed) → IsCeiling ends.hi i.hi (pos printed) → IsPrintable ends
 nano-fits i ends order within low high = record {
-  lo = record { low = omega (arith, ints, low.reached, low.nearest, within.low); high = omega (arith, ints, low.reached, low.nearest, within.high, order) };
-  hi = record { low = omega (arith, ints, high.reached, high.nearest, within.low, order); high = omega (arith, ints, high.reached, high.nearest, within.high) };
+  lo = record {
+    low = omega (arith, ints, low.reached, low.nearest, within.low);
+    high = omega (arith, ints, low.reached, low.nearest, within.high, order);
+  };
+  hi = record {
+    low = omega (arith, ints, high.reached, high.nearest, within.low, order);
+    high = omega (arith, ints, high.reached, high.nearest, within.high);
+  };
 }

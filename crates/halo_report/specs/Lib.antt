@@ -1,3 +1,4 @@
+-- The definitions that the contracts of the texts cite.
 pub mod Lines
 pub mod ValueText
 pub mod Printed

@@ -1,14 +1,15 @@
 -- The value report.
 use Rattle.std.specs.Prelude.{ℕ, List, [], ◌++◌, Option, None, Some, codes}
 use Rattle.halo_num.specs.declared.nano.Nano.{Nano}
-use Rattle.halo_report.specs.Lines.{line_text, numbered_lines}
+use Rattle.halo_report.specs.Lines.{value_line, numbered_lines}
 
 -- the line of the premium, where there is one
 abbrev pub premium_lines : Option Nano → List ℕ
 premium_lines None = []
-premium_lines (Some ends) = line_text (codes "premium") ends
+premium_lines (Some ends) = value_line (codes "premium") ends
 
 -- the lines of the pays, the total, the premium and the reserves
 abbrev pub report_text : List Nano → Nano → Option Nano → List Nano → List ℕ
 report_text pays total premium reserves =
-    numbered_lines (codes "pay") 1 pays ++ line_text (codes "total") total ++ premium_lines premium ++ numbered_lines (codes "reserve") 1 reserves
+    numbered_lines (codes "pay") 1 pays ++ value_line (codes "total") total
+    ++ premium_lines premium ++ numbered_lines (codes "reserve") 1 reserves

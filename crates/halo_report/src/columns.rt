@@ -11,8 +11,8 @@ use halo_num::{Ival, Nano};
 use halo_table::Tables;
 use std::alloc::Global;
 
-/// The lines of the commutation columns of a table: for each age in rising order a line with D, N, S,
-/// C, M and R, and behind it one with C and M for each cause, each column with the two ends that
+/// The lines of the commutation columns of a table: for each age in rising order a line with D, N,
+/// S, C, M and R, and behind it one with C and M for each cause, each column with the two ends that
 /// enclose it. The columns are those of this table.
 pub fn columns_text(
     alloc: Global,
@@ -41,7 +41,8 @@ fn write_age(
 ) -> Result<(), Memory>
     requires age { IsPrintableAge columns.now age }
     requires causes { ArePrintableCauses tables.now columns.now age }
-    ensures { OnOk result (into.new.items ≡ into.old.items ++ age_lines tables.now columns.now age) }
+    ensures { OnOk result (into.new.items
+        ≡ into.old.items ++ age_lines tables.now columns.now age) }
 {
     write_age_line(columns, age, into)?;
     write_causes(tables, columns, age, into)
@@ -90,7 +91,8 @@ fn write_causes(
 ) -> Result<(), Memory>
     requires { ArePrintableCauses tables.now columns.now age }
     ensures { OnOk result (into.new.items
-        ≡ into.old.items ++ lines_from (cause_line tables.now columns.now age) 0 (length tables.now.causes)) }
+        ≡ into.old.items
+        ++ lines_from (cause_line tables.now columns.now age) 0 (length tables.now.causes)) }
 {
     for cause in 0..tables.causes() {
         write_cause_line(tables, columns, age, cause, into)?;
@@ -108,7 +110,8 @@ fn write_cause_line(
 ) -> Result<(), Memory>
     requires cause { cause < length tables.now.causes }
     requires causes { ArePrintableCauses tables.now columns.now age }
-    ensures { OnOk result (into.new.items ≡ into.old.items ++ cause_line tables.now columns.now age cause) }
+    ensures { OnOk result (into.new.items
+        ≡ into.old.items ++ cause_line tables.now columns.now age cause) }
 {
     write_bytes(b"age ", into)?;
     write_number(u64::from(age), into)?;

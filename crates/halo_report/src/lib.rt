@@ -1,12 +1,15 @@
-//! The texts that a run writes.
+//! The texts that a run writes: the report of the values of a contract, and commutation columns.
 #![tactic(auto)]
 
 mod columns;
 pub mod laws;
-mod memory;
+#[cfg(test)]
+mod tests;
 mod text;
 mod value;
 
 pub use columns::columns_text;
-pub use memory::Memory;
+pub use text::LARGEST_PRINTED;
+/// There was not enough memory.
+pub use std::alloc::AllocError as Memory;
 pub use value::{ValueReport, value_text};

@@ -1,5 +1,5 @@
 // The parts of a line.
-ghost use Rattle.std.specs.Prelude.{◌≡◌, ◌++◌, ◌^◌, OnOk, codes};
+ghost use Rattle.std.specs.Prelude.{◌≡◌, ◌++◌, OnOk, codes};
 ghost use Rattle.std.specs.Fmt.{decimal};
 ghost use Rattle.halo_spell.specs.Decimal.{decimal_of};
 ghost use Rattle.halo_report.specs.Lines.{IsPrintable, ends_text};
@@ -8,6 +8,9 @@ use crate::Memory;
 use arrayvec::ArrayString;
 use halo_num::Nano;
 use itoa::Buffer;
+
+/// The greatest size of an end that is printed, in printed units of 10^-9.
+pub const LARGEST_PRINTED: u128 = 1_000_000_000_000_000_000_000_000_000_000_000_000;
 
 /// Writes bytes behind a text.
 pub fn write_bytes(bytes: &[u8], into: &mut Vec<u8>) -> Result<(), Memory>

@@ -1,6 +1,6 @@
 // The report of the command `value`.
 ghost use Rattle.std.specs.Prelude.{◌≡◌, ◌++◌, ◌^◌, ◌≤◌, ◌<◌, All, IfOk, IfSome, OnOk, codes, length};
-ghost use Rattle.halo_report.specs.Lines.{IsPrintable, line_text, numbered_lines};
+ghost use Rattle.halo_report.specs.Lines.{IsPrintable, value_line, numbered_lines};
 ghost use Rattle.halo_report.specs.ValueText.{premium_lines, report_text};
 
 use crate::Memory;
@@ -12,21 +12,27 @@ use std::alloc::Global;
 /// there is one, and of its reserves, in printed units of 10^-9.
 #[derive(Drop)]
 pub struct ValueReport {
+    /// Each pay with its amount, in the contract's order.
     pub pays: Vec<Nano>,
+    /// All pays together.
     pub total: Nano,
+    /// The premium, where the contract asks for one.
     pub premium: Option<Nano>,
+    /// Each reserve that the contract asks for, in its order.
     pub reserves: Vec<Nano>,
 }
 
-/// The lines of a value report: `pay` and its number for each pay, `total`, `premium`, and `reserve`
-/// and its number for each reserve, each with the two ends. Each end is at most 10^36 in size.
+/// The lines of a value report: `pay` and its number for each pay, `total`, `premium` where there
+/// is one, and `reserve` and its number for each reserve, each with the two ends. Each end is at
+/// most 10^36 in size.
 pub fn value_text(alloc: Global, report: &ValueReport) -> Result<Vec<u8>, Memory>
     requires pays { All IsPrintable report.now.pays.items }
     requires total { IsPrintable report.now.total }
     requires premium { IfSome report.now.premium IsPrintable }
     requires reserves { All IsPrintable report.now.reserves.items }
     ensures { IfOk result (λ text. text.items
-        ≡ report_text report.now.pays.items report.now.total report.now.premium report.now.reserves.items) }
+        ≡ report_text report.now.pays.items report.now.total report.now.premium
+        report.now.reserves.items) }
 {
     let mut text = Vec::new(alloc);
     write_numbered(b"pay", &report.pays, &mut text)?;
@@ -41,7 +47,7 @@ pub fn value_text(alloc: Global, report: &ValueReport) -> Result<Vec<u8>, Memory
 // Writes a line: a word and the two ends.
 fn write_line(word: &[u8], ends: Nano, into: &mut Vec<u8>) -> Result<(), Memory>
     requires { IsPrintable ends }
-    ensures { OnOk result (into.new.items ≡ into.old.items ++ line_text word.now ends) }
+    ensures { OnOk result (into.new.items ≡ into.old.items ++ value_line word.now ends) }
 {
     write_bytes(word, into)?;
     write_ends(ends, into)?;

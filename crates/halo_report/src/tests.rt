@@ -1,0 +1,88 @@
+ghost use Rattle.std.specs.Prelude.{◌≡◌, ◌<◌, ◌≤◌, All, IfOk, pos, ◌≤ℤ◌};
+ghost use Rattle.halo_report.specs.Lines.{IsPrintable};
+
+use crate::{Memory, ValueReport, columns_text, value_text};
+use halo_columns::columns;
+use halo_interest::Interest;
+use halo_num::{Nano, Steps};
+use halo_table::Tables;
+use std::alloc::Global;
+use std::marker::Brand;
+use std::process::Abort;
+use std::rt::HostRuntime;
+use std::sync::ledger::{Blank, Ledger};
+use std::test::Fail;
+
+// At ages 0, 1 and 2 four, two and one are alive, of whom two, one and one die.
+const TABLES: &[u8] = b"table,age,l,death\nc,0,4,2\nc,1,2,1\nc,2,1,1\n";
+
+const COLUMNS: &[u8] = b"\
+age 0 D 4.000000000 4.000000000 N 5.250000000 5.250000000 S 6.750000000 6.750000000 \
+C 1.000000000 1.000000000 M 1.375000000 1.375000000 R 1.875000000 1.875000000\n\
+age 0 cause death C 1.000000000 1.000000000 M 1.375000000 1.375000000\n\
+age 1 D 1.000000000 1.000000000 N 1.250000000 1.250000000 S 1.500000000 1.500000000 \
+C 0.250000000 0.250000000 M 0.375000000 0.375000000 R 0.500000000 0.500000000\n\
+age 1 cause death C 0.250000000 0.250000000 M 0.375000000 0.375000000\n\
+age 2 D 0.250000000 0.250000000 N 0.250000000 0.250000000 S 0.250000000 0.250000000 \
+C 0.125000000 0.125000000 M 0.125000000 0.125000000 R 0.125000000 0.125000000\n\
+age 2 cause death C 0.125000000 0.125000000 M 0.125000000 0.125000000\n";
+
+// An insurance worth 11/32, with a premium over two years, and its reserve after one.
+const REPORT: &[u8] = b"\
+pay 1 0.343750000 0.343750000\n\
+total 0.343750000 0.343750000\n\
+premium 0.275000000 0.275000000\n\
+reserve 1 0.100000000 0.100000000\n";
+
+// An enclosure whose ends are equal, and a list of one enclosure.
+fn exactly(units: u64) -> Nano
+    ensures { IsPrintable result }
+{
+    Nano {
+        lo: i128::from(units),
+        hi: i128::from(units),
+    }
+}
+
+fn one(alloc: Global, ends: Nano) -> Result<Vec<Nano>, Memory>
+    requires { IsPrintable ends }
+    ensures { IfOk result (λ list. All IsPrintable list.items) }
+{
+    let mut list = Vec::new(alloc);
+    list.push(ends)?;
+    Ok(list)
+}
+
+#[test]
+fn report_of_values(rt: HostRuntime) -> Result<(), Fail> {
+    let alloc = rt.alloc();
+    let report = ValueReport {
+        pays: one(alloc, exactly(343_750_000))?,
+        total: exactly(343_750_000),
+        premium: Some(exactly(275_000_000)),
+        reserves: one(alloc, exactly(100_000_000))?,
+    };
+    let text = value_text(alloc, &report)?;
+    assert!(rt; text.as_slice() == REPORT);
+    Ok(())
+}
+
+fn assert_columns<L: Ledger>(rt: &impl Abort, alloc: Global, blank: Blank) -> Result<(), Fail>
+    requires name { blank.name ≡ L.name }
+    requires parts { blank.parts ≡ L.parts }
+    requires some { 0 < L.parts }
+{
+    let mut steps = Steps::<L>::new(blank);
+    let tables = Tables::read(alloc, TABLES)?;
+    let table = tables.find(b"c").ok_or("the table stands in the file")?;
+    let interest = Interest::new(1, 1).ok_or("1/1 is a fraction")?;
+    let set = columns(alloc, &tables, table, &interest, &mut steps)?;
+    let text = columns_text(alloc, &tables, table, &set)?;
+    assert!(rt; text.as_slice() == COLUMNS);
+    Ok(())
+}
+
+#[test]
+fn text_of_columns(rt: HostRuntime) -> Result<(), Fail> {
+    assert_columns::<Brand>(&rt, rt.alloc(), Blank::new(1))
+}
