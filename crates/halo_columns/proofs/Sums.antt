@@ -11,7 +11,7 @@ use Rattle.halo_table.specs.DecrementTable.{last_age_of}
 use Rattle.halo_model.specs.Columns.{ColumnBasis, column_denominator, end_age, sum_from}
 use Rattle.halo_columns.specs.declared.entry.TheConstants.{GREATEST_DISCOUNTED}
 use Rattle.halo_columns.specs.declared.column.TheConstants.{MOST_AGES}
-use Rattle.halo_columns.specs.Entries.{AreEntries, AreSized, AreSums, IsEntry, both, sum_before, zero_entry}
+use Rattle.halo_columns.specs.Entries.{AreEntries, AreSized, AreSums, IsEntry, sum_of_ends, sum_before, zero_entry}
 
 -- nothing is the sum of no entries
 no-entries : (c : ColumnBasis) → IsEntry c 0 0 0 zero_entry
@@ -23,12 +23,13 @@ no-entries c = record {
 
 -- two entries together
 both-entries : (c : ColumnBasis) (m n v w k l : ℕ) (a b : Ends) → IsEntry c m v k a → IsEntry c n w l b
-    → IsEntry c (n + m) (w + v) (k + l) (both a b)
+    → IsEntry c (n + m) (w + v) (k + l) (sum_of_ends a b)
 both-entries c m n v w k l a b p q =
     let order : pos m +ℤ pos n ≡ pos (n + m) = omega (arith, ints) in
     record {
       encloses = rw order
-          at (encloses_add a b (both a b) (pos m) (pos n) (column_denominator c) refl refl p.encloses q.encloses);
+          at (encloses_add a b (sum_of_ends a b) (pos m) (pos n) (column_denominator c) refl refl p.encloses
+              q.encloses);
       narrow = record { near = omega (arith, ints, p.narrow.near, q.narrow.near) };
       within = record {
         low = omega (arith, ints, p.within.low, q.within.low);
@@ -69,7 +70,7 @@ module _ (c : ColumnBasis) (entry width : ℕ → ℕ) (most : ℕ) (column sums
 -- the first n sums of a column, the last of which is told
 pub record IsSummed (column sums : List Ends) (n : ℕ) (sum : Ends) : Type 0 where
   pub count : length sums ≡ n
-  pub each : (k : ℕ) → k < n → get_or sums k zero_entry ≡ both (sum_before sums k) (get_or column k zero_entry)
+  pub each : (k : ℕ) → k < n → get_or sums k zero_entry ≡ sum_of_ends (sum_before sums k) (get_or column k zero_entry)
   pub last : sum ≡ sum_before sums n
   pub within : IsWithin sum (pos 0) (pos (n * (MOST_AGES * GREATEST_DISCOUNTED)))
 

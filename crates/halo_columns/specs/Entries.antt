@@ -50,8 +50,8 @@ pub record AreSized (most : ℕ) (column : List Ends) : Type 0 where
   pub each : (k : ℕ) → k < length column → IsWithin (get_or column k zero_entry) (pos 0) (pos most)
 
 -- the sum of two intervals
-abbrev pub both : Ends → Ends → Ends
-both a b = record { lo = a.lo +ℤ b.lo; hi = a.hi +ℤ b.hi }
+abbrev pub sum_of_ends : Ends → Ends → Ends
+sum_of_ends a b = record { lo = a.lo +ℤ b.lo; hi = a.hi +ℤ b.hi }
 
 -- the sum before a place of a list of sums: nothing before the first one
 abbrev pub sum_before : List Ends → ℕ → Ends
@@ -62,4 +62,4 @@ sum_before sums (suc k) = get_or sums k zero_entry
 pub record AreSums (column sums : List Ends) : Type 0 where
   pub full : length sums ≡ length column
   pub each : (k : ℕ) → k < length column
-      → get_or sums k zero_entry ≡ both (sum_before sums k) (get_or column k zero_entry)
+      → get_or sums k zero_entry ≡ sum_of_ends (sum_before sums k) (get_or column k zero_entry)

@@ -20,8 +20,11 @@ pub const GREATEST_DISCOUNTED: u128 = 1_000_000_000_000_000_000_000_000_000_000;
 /// Whom a column counts at an age: those who are alive, or those who leave, by any cause or by one.
 #[derive(Clone, Copy)]
 pub enum Counted {
+    /// Those who are alive at the age.
     Survivors,
+    /// Those who leave at it, by whichever cause.
     Leavers,
+    /// Those who leave at it by the cause at this place.
     LeaversBy(u8),
 }
 

@@ -9,7 +9,7 @@ ghost use Rattle.halo_columns.specs.Summed.{AreSummedByCause, IsSummedOnce, IsSu
 use crate::Memory;
 use crate::column::{column, running_sums};
 use crate::entry::Counted;
-use halo_interest::{Interest, Powers};
+use halo_interest::{Interest, LAST_TIME, Powers};
 use halo_num::{Ival, Steps};
 use halo_table::Tables;
 use std::alloc::Global;
@@ -174,7 +174,7 @@ pub fn columns<L: Ledger>(
     requires { table < length tables.now.tables }
     ensures columns { IfOk result (λ set. EnclosesColumns (columns_of
         (λ k. (rate_of interest.now k).p) (λ k. (rate_of interest.now k).q) tables.now table) set) }
-    ensures cost { steps.new ≤ steps.old + 200 }
+    ensures cost { steps.new ≤ steps.old + LAST_TIME }
 {
     let powers = interest.powers(steps);
     discounted_columns(alloc, tables, table, &powers)

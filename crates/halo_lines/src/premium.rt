@@ -14,7 +14,9 @@ use halo_premium::premium;
 /// A premium, and its two ends as they are printed.
 #[derive(Clone, Copy, Debug, PartialEq, Eq)]
 pub struct PremiumLine {
+    /// The premium, from which the reserves are told.
     pub premium: Ival,
+    /// Its ends in printed units.
     pub line: Nano,
 }
 
