@@ -38,7 +38,7 @@ amounts-more pays pay = sum_over-append pays (pay ∷ []) (λ p. p.amount) ∙ o
 amounts-first : {X : Type 0} (f : X → PlainPay) (xs : List X) (n : ℕ) → amounts (map f (take n xs)) ≤ amounts (map f xs)
 amounts-first f xs n =
     let parts : map f (take n xs) ++ map f (drop n xs) ≡ map f xs
-        = sym (map-append f (take n xs) (drop n xs)) ∙ ap (map f) (take-append-drop n xs) in
+    = sym (map-append f (take n xs) (drop n xs)) ∙ ap (map f) (take-append-drop n xs) in
     omega (arith, ap amounts parts, sum_over-append (map f (take n xs)) (map f (drop n xs)) (λ (p : PlainPay). p.amount))
 
 -- what is known of the pay at a place and of its value

@@ -36,7 +36,7 @@ module _ (total value : Ends) (sum amount : ℕ) (is : IsTotalOf sum total) (sma
   pub can-add : sum + amount ≤ GREATEST_AMOUNT → CanAdd
   can-add few =
       let high : (value.hi *ℤ pos amount) ≤ℤ (pos (MOST_WORTH * fine) *ℤ pos amount)
-          = mul_le_pos value.hi (pos (MOST_WORTH * fine)) amount small.high in
+      = mul_le_pos value.hi (pos (MOST_WORTH * fine)) amount small.high in
       record {
         sum_in = total-fits sum total is (omega arith);
         value_in = record { low = small.low; high = omega (arith, ints, small.high) };
@@ -48,7 +48,7 @@ module _ (total value : Ends) (sum amount : ℕ) (is : IsTotalOf sum total) (sma
   total-more more lo hi =
       let low : (pos 0 *ℤ pos amount) ≤ℤ (value.lo *ℤ pos amount) = mul_le_pos (pos 0) value.lo amount small.low in
       let high : (value.hi *ℤ pos amount) ≤ℤ (pos (MOST_WORTH * fine) *ℤ pos amount)
-          = mul_le_pos value.hi (pos (MOST_WORTH * fine)) amount small.high in
+      = mul_le_pos value.hi (pos (MOST_WORTH * fine)) amount small.high in
       record { low = rw lo (omega (arith, ints, low, is.low)); high = rw hi (omega (arith, ints, high, is.high)) }
 
 -- the values of pays within the limits of contracts are small

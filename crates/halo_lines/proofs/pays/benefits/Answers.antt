@@ -2,7 +2,7 @@ use Rattle.std.proofs.Common.{get_or, map, take, arith}
 use Rattle.halo_status.specs.Pay.{pay_of}
 use Rattle.halo_model.proofs.Benefits.{no-benefits, one-benefit-more}
 use Rattle.halo_lines.proofs.PayByPay.{amounts, amounts-more, pay-at}
-use Rattle.halo_lines.proofs.Room.{can-add, nothing-total, total-fits, total-more}
+use Rattle.halo_lines.proofs.Room.{can-add, nothing-total, total-more}
 use Rattle.halo_lines.proofs.pays.benefits.Goals as goal
 
 pub loop-place-init : goal.loop-place-init
@@ -16,14 +16,14 @@ loop-place-init c =
 pub add_pay-total-requires : goal.add_pay-total-requires
 add_pay-total-requires c =
     let at = pay-at c.args.pays.now c.args.values.now c.loop-place.place c.index-pays-place.result
-        c.index-values-place.result c.requires.room c.requires.same c.loop-place-test.true c.index-values-place.is in
+    c.index-values-place.result c.requires.room c.requires.same c.loop-place-test.true c.index-values-place.is in
     let can = can-add c.loop-place.total c.index-values-place.result _ _ c.loop-place.invariant.room at.small at.few in
     record { amount_in = omega (arith, at.few); sum_in = can.sum_in; value_in = can.value_in; result_in = can.result_in }
 
 pub loop-place-preserved : goal.loop-place-preserved
 loop-place-preserved c =
     let at = pay-at c.args.pays.now c.args.values.now c.loop-place.place c.index-pays-place.result
-        c.index-values-place.result c.requires.room c.requires.same c.loop-place-test.true c.index-values-place.is in
+    c.index-values-place.result c.requires.room c.requires.same c.loop-place-test.true c.index-values-place.is in
     let pay = pay_of (get_or c.args.pays.now c.loop-place.place c.index-pays-place.result) in
     let before = map pay_of (take c.loop-place.place c.args.pays.now) in
     let sum = c.add_pay-total.ensures in

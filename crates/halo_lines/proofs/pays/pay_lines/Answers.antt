@@ -14,7 +14,7 @@ loop-place-init c = rw c.new-lines.ensures.items (λ b are. tt)
 pub add_pay-benefit-requires : goal.add_pay-benefit-requires
 add_pay-benefit-requires c =
     let at = pay-at c.args.pays.now c.args.values.now c.loop-place.place c.index-pays-place.result
-        c.index-values-place.result c.requires.room c.requires.same c.loop-place-test.true c.index-values-place.is in
+    c.index-values-place.result c.requires.room c.requires.same c.loop-place-test.true c.index-values-place.is in
     let amount = (get_or c.args.pays.now c.loop-place.place c.index-pays-place.result).amount in
     let nothing = nothing-total c.exact.result c.exact.ensures.lo c.exact.ensures.hi in
     let can = can-add c.exact.result c.index-values-place.result 0 amount nothing at.small (omega (arith, at.few)) in
@@ -23,15 +23,15 @@ add_pay-benefit-requires c =
 pub loop-place-preserved : goal.loop-place-preserved
 loop-place-preserved c =
     let at = pay-at c.args.pays.now c.args.values.now c.loop-place.place c.index-pays-place.result
-        c.index-values-place.result c.requires.room c.requires.same c.loop-place-test.true c.index-values-place.is in
+    c.index-values-place.result c.requires.room c.requires.same c.loop-place-test.true c.index-values-place.is in
     let pay = pay_of (get_or c.args.pays.now c.loop-place.place c.index-pays-place.result) in
     let before = map pay_of (take c.loop-place.place c.args.pays.now) in
     let sum = c.add_pay-benefit.ensures in
     let printed = c.to_nano.ensures in
     rw (at.listed, c.in_ok-push.ensures.items) (λ b are.
-        let alone = one-benefit-more b [] pay 0 all_lives c.exact.result c.index-values-place.result c.add_pay-benefit.result
-            (no-benefits b 0 all_lives c.exact.result c.exact.ensures.lo c.exact.ensures.hi)
-            (at.enclosed b 0 all_lives are) sum.lo sum.hi in
-        zip-push (IsPayLine b) before c.loop-place.lines.items pay c.to_nano.result (c.loop-place.invariant b are)
-        (pay-has-line b pay c.add_pay-benefit.result c.to_nano.result alone
-        (record { encloses = printed.encloses; narrow = printed.narrow })))
+    let alone = one-benefit-more b [] pay 0 all_lives c.exact.result c.index-values-place.result c.add_pay-benefit.result
+    (no-benefits b 0 all_lives c.exact.result c.exact.ensures.lo c.exact.ensures.hi)
+    (at.enclosed b 0 all_lives are) sum.lo sum.hi in
+    zip-push (IsPayLine b) before c.loop-place.lines.items pay c.to_nano.result (c.loop-place.invariant b are)
+    (pay-has-line b pay c.add_pay-benefit.result c.to_nano.result alone
+    (record { encloses = printed.encloses; narrow = printed.narrow })))
