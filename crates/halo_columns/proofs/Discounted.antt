@@ -1,5 +1,5 @@
 -- The entries of the columns that count lives.
-use Rattle.std.proofs.Common.{◌≡◌, ℕ, ◌+◌, ◌*◌, ◌-◌, ◌^◌, ◌≤◌, arith, pos}
+use Rattle.std.proofs.Common.{◌≡◌, ℕ, ◌+◌, ◌*◌, ◌-◌, ◌≤◌, arith, pos}
 use Rattle.halo_num.specs.Ends.{Ends, HasWidth, IsWithin}
 use Rattle.halo_num.specs.Enclosure.{Encloses}
 use Rattle.halo_interest.specs.Powers.{IsPower}
@@ -31,6 +31,6 @@ pub leavers-are : (file : TableFile) → IsSound file → (table age : ℕ) → 
 leavers-are file sound table age row =
     let here : age + 0 ≡ age = omega arith in
     let falls : survivors_at file table (age + 0)
-        ≡ leavers_at_age file table (age + 0) + survivors_at file table (age + 1)
+    ≡ leavers_at_age file table (age + 0) + survivors_at file table (age + 1)
     = (life_of-IsLife file sound table age row.table_in row.from_first).falls 0 in
     omega (arith, rw here at falls)

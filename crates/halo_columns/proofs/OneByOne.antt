@@ -35,7 +35,7 @@ one-begun most n column i so_far new =
         each = λ k before.
             ⊎_elim
             (λ (q : k < n). rw (get_or_append_left column (i ∷ []) zero_entry k (omega arith))
-                (so_far.sized.each k (omega arith)))
+            (so_far.sized.each k (omega arith)))
             (λ (q : n ≤ k). let e : k ≡ n = omega (arith, longer) in rw (e, at_end) new)
             (cases_lt k n);
       };
@@ -51,7 +51,7 @@ module _ (c : ColumnBasis) (entry width : ℕ → ℕ) (most : ℕ) where
   one-more n column i so_far new =
       let size : length column ≡ n = so_far.count in
       let at_end : get_or (column ++ i ∷ []) n zero_entry ≡ i
-          = rw size at (get_or-append_seam column i [] zero_entry) in
+      = rw size at (get_or-append_seam column i [] zero_entry) in
       record {
         count = length-append column (i ∷ []) ∙ omega (arith, size);
         each = λ k before.

@@ -1,5 +1,5 @@
 -- Columns with their sums, and all columns of a table.
-use Rattle.std.proofs.Common.{◌≡◌, ℕ, ◌+◌, ◌*◌, ◌-◌, ◌^◌, ◌<◌, ◌≤◌, ◌++◌, List, [], ◌∷◌, get_or, length, length-append, arith, refl, ◌∙◌, ⊎_elim}
+use Rattle.std.proofs.Common.{◌≡◌, ℕ, ◌+◌, ◌*◌, ◌-◌, ◌<◌, ◌≤◌, ◌++◌, List, [], ◌∷◌, get_or, length, length-append, arith, refl, ◌∙◌, ⊎_elim}
 use Rattle.std.proofs.lemmas.Bool.{cases_lt}
 use Rattle.std.proofs.lemmas.Int.{ints}
 use Rattle.std.proofs.lemmas.List.{get_or_append_left}
@@ -23,7 +23,7 @@ pub summed-twice : (c : ColumnBasis) (what : Counted) (discounted sums more : Li
     → IsSummedTwice c what (record { discounted = discounted; sums = sums; sums_of_sums = more })
 summed-twice c what discounted sums more few entries are again =
     let once = sums-are-entries c (counted c what) (counted_width c what) GREATEST_DISCOUNTED discounted sums few
-        entries are in
+    entries are in
     record {
       discounted = entries;
       sums = once;

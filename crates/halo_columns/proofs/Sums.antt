@@ -1,5 +1,5 @@
 -- The sums of a column enclose what its entries come to.
-use Rattle.std.proofs.Common.{◌≡◌, ℕ, zero, suc, ◌+◌, ◌*◌, ◌-◌, ◌^◌, ◌<◌, ◌≤◌, ◌++◌, List, [], ◌∷◌, get_or, length, arith, ap, refl, sym, ◌∙◌, ℤ, pos, ◌+ℤ◌, ⊎_elim, length-append, mul-le-mul_right}
+use Rattle.std.proofs.Common.{◌≡◌, ℕ, zero, suc, ◌+◌, ◌*◌, ◌-◌, ◌<◌, ◌≤◌, ◌++◌, List, [], ◌∷◌, get_or, length, arith, ap, refl, sym, ◌∙◌, ℤ, pos, ◌+ℤ◌, ⊎_elim, length-append, mul-le-mul_right}
 use Rattle.std.proofs.lemmas.Bool.{cases_lt}
 use Rattle.std.proofs.lemmas.Int.{ints}
 use Rattle.std.proofs.lemmas.List.{get_or_append_left}
@@ -29,7 +29,7 @@ both-entries c m n v w k l a b p q =
     record {
       encloses = rw order
           at (encloses_add a b (sum_of_ends a b) (pos m) (pos n) (column_denominator c) refl refl p.encloses
-              q.encloses);
+          q.encloses);
       narrow = record { near = omega (arith, ints, p.narrow.near, q.narrow.near) };
       within = record {
         low = omega (arith, ints, p.within.low, q.within.low);
@@ -60,12 +60,12 @@ module _ (c : ColumnBasis) (entry width : ℕ → ℕ) (most : ℕ) (column sums
       let below : x < end_age c = omega arith in
       let here = rw age at (entries.each k (omega arith)) in
       let total : sum_from c entry x ≡ entry x + sum_from c entry (end_age c - k)
-          = rw next at (sum-next c entry x below) in
+      = rw next at (sum-next c entry x below) in
       let wide : sum_from c width x ≡ width x + sum_from c width (end_age c - k)
-          = rw next at (sum-next c width x below) in
+      = rw next at (sum-next c width x below) in
       let most_of : suc k * most ≡ k * most + most = omega arith in
       rw (are.each k (omega arith), total, wide, most_of)
-          (both-entries c _ _ _ _ _ _ _ _ (before-encloses k (omega arith)) here)
+      (both-entries c _ _ _ _ _ _ _ _ (before-encloses k (omega arith)) here)
 
 -- the first n sums of a column, the last of which is told
 pub record IsSummed (column sums : List Ends) (n : ℕ) (sum : Ends) : Type 0 where
@@ -95,15 +95,15 @@ pub one-summed : (column sums : List Ends) (n : ℕ) (sum entry next : Ends) →
 one-summed column sums n sum entry next so_far here in_range lo hi =
     let size : length sums ≡ n = so_far.count in
     let new : get_or (sums ++ next ∷ []) n zero_entry ≡ next
-        = rw size at (get_or-append_seam sums next [] zero_entry) in
+    = rw size at (get_or-append_seam sums next [] zero_entry) in
     let more : n + 1 ≡ suc n = omega arith in
     record {
       count = length-append sums (next ∷ []) ∙ omega (arith, size);
       each = λ k before.
           ⊎_elim
           (λ (q : k < n).
-              let kept = get_or_append_left sums (next ∷ []) zero_entry k (omega arith) in
-              rw (kept, before-kept sums (next ∷ []) k (omega arith)) (so_far.each k q))
+          let kept = get_or_append_left sums (next ∷ []) zero_entry k (omega arith) in
+          rw (kept, before-kept sums (next ∷ []) k (omega arith)) (so_far.each k q))
           (λ (q : n ≤ k).
           let e : k ≡ n = omega arith in
           rw (e, new, before-kept sums (next ∷ []) n (omega arith), ← so_far.last, here) (ends-are next _ _ lo hi))

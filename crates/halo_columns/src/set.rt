@@ -33,9 +33,9 @@ impl Model for SummedTwice {
     ghost Value = { SummedTwice };
 
     ghost view = { λ t. record {
-        discounted = t.discounted.items;
-        sums = t.sums.items;
-        sums_of_sums = t.sums_of_sums.items;
+      discounted = t.discounted.items;
+      sums = t.sums.items;
+      sums_of_sums = t.sums_of_sums.items;
     } };
 }
 
@@ -70,10 +70,10 @@ impl Model for ColumnSet {
     ghost Value = { ColumnLists };
 
     ghost view = { λ set. record {
-        last_age = set.last_age;
-        survivors = set.survivors;
-        leavers = set.leavers;
-        by_cause = set.by_cause.items;
+      last_age = set.last_age;
+      survivors = set.survivors;
+      leavers = set.leavers;
+      by_cause = set.by_cause.items;
     } };
 }
 

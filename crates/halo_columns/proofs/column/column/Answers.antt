@@ -1,4 +1,4 @@
-use Rattle.std.proofs.Common.{arith, ◌^◌}
+use Rattle.std.proofs.Common.{arith}
 use Rattle.halo_columns.specs.declared.entry.TheConstants.{GREATEST_DISCOUNTED}
 use Rattle.halo_columns.specs.Entries.{columns_of}
 use Rattle.halo_columns.proofs.OneByOne.{all-there, none-begun, none-yet, one-begun, one-more}

@@ -1,4 +1,4 @@
-use Rattle.std.proofs.Common.{◌+◌, ◌^◌, ℕ}
+use Rattle.std.proofs.Common.{◌+◌, ℕ}
 use Rattle.halo_interest.specs.Powers.{ArePowers}
 use Rattle.halo_columns.specs.declared.entry.TheConstants.{GREATEST_DISCOUNTED}
 use Rattle.halo_columns.specs.Entries.{columns_of, counted, counted_width}

@@ -12,4 +12,4 @@ returns c p q powers =
       by_cause = c.in_ok-by_cause.by_cause.items;
     })
     c.last_age.ensures.age (c.in_ok-survivors.ensures p q powers) (c.in_ok-leavers.ensures p q powers)
-        (c.in_ok-by_cause.ensures p q powers)
+    (c.in_ok-by_cause.ensures p q powers)

@@ -1,6 +1,4 @@
-use Rattle.std.proofs.Common.{◌*◌, ◌^◌, arith}
 use Rattle.halo_columns.specs.declared.entry.TheConstants.{GREATEST_DISCOUNTED}
-use Rattle.halo_columns.specs.declared.column.TheConstants.{MOST_AGES}
 use Rattle.halo_columns.specs.Entries.{columns_of}
 use Rattle.halo_columns.proofs.Sums.{sums-sized}
 use Rattle.halo_columns.proofs.SummedColumns.{summed-twice}
