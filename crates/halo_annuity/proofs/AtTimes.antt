@@ -14,7 +14,7 @@ use Rattle.halo_model.specs.Coefficient.{form}
 use Rattle.halo_model.specs.Backward.{above_zero, backward, below_zero, gain, loss, may_pay, paid_at, years_passed}
 use Rattle.halo_model.specs.Segment.{last_time_of_form}
 use Rattle.halo_life.specs.Lists.{Lists, entry, nothing}
-use Rattle.halo_annuity.specs.Worth.{EnclosesCarried, EnclosesSet, HoldCarried, HoldValues, most_paid, waited}
+use Rattle.halo_annuity.specs.Worth.{EnclosesCarried, EnclosesSet, HoldCarried, HoldValues, paid_in_all, waited}
 use Rattle.halo_annuity.proofs.Passes.{none-carried, none-held, none-paid}
 
 -- what is paid alike from a time on is worth the same
@@ -26,7 +26,7 @@ module _ (b : Basis) (n : ℕ) (s : List Bool) (f g : ℕ → ℕ) where
   backward-alike zero t h = refl
   backward-alike (suc years) t h = rw (h t (omega arith), backward-alike years (suc t) (λ u from. h u (omega arith))) refl
 
-  most-alike : (years t : ℕ) → AlikeFrom t → most_paid f t years ≡ most_paid g t years
+  most-alike : (years t : ℕ) → AlikeFrom t → paid_in_all f t years ≡ paid_in_all g t years
   most-alike zero t h = refl
   most-alike (suc years) t h = omega (arith, h t (omega arith), most-alike years (suc t) (λ u from. h u (omega arith)))
 
@@ -43,7 +43,7 @@ pub set-is-carried : (b : Basis) (n : ℕ) (s : List Bool) (f : ℕ → ℕ) (ye
 set-is-carried b n s f years t i none worth = record {
   encloses = λ some. let e = nothing-more (f t) (joint_survivors t (in_set s) b.lives * accumulated b t) (b.q t * backward b s f (suc t) years) none in rw e at (worth.encloses some);
   narrow = worth.narrow;
-  within = let e = none-more (f t) (most_paid f (suc t) years) none in rw e at worth.within;
+  within = let e = none-more (f t) (paid_in_all f (suc t) years) none in rw e at worth.within;
 }
   where
     nothing-more : (p k m : ℕ) → p ≡ 0 → p * k + m ≡ m

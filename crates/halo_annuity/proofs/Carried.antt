@@ -14,7 +14,7 @@ use Rattle.halo_model.specs.Life.{AreLives, IsLife, PlainLife, after_first}
 use Rattle.halo_model.specs.Outcome.{joint_survivors}
 use Rattle.halo_model.specs.Basis.{Basis, accumulated}
 use Rattle.halo_model.specs.Backward.{backward}
-use Rattle.halo_annuity.specs.Worth.{Carries, EnclosesCarried, EnclosesSet, EnclosesWorth, most_paid, waited}
+use Rattle.halo_annuity.specs.Worth.{Carries, EnclosesCarried, EnclosesSet, EnclosesSetWorth, paid_in_all, waited}
 
 -- an interval encloses its own lower end
 own : (i : Ends) → i.lo ≤ℤ i.hi → Encloses i i.lo fine
@@ -67,8 +67,8 @@ pub wider : (i : Ends) (v w : ℕ) → v ≤ w → HasWidth i v → HasWidth i w
 wider i v w h p = record { near = omega (arith, ints, p.near, h) }
 
 -- a value carried back
-pub carried-worth : (later chance result : Ends) (num j₁ a₁ q r j most w v : ℕ) → EnclosesWorth num (j₁ * a₁) most w later → (j₁ ≡ 0 → num ≡ 0)
-    → (0 < j → Encloses chance (pos (q * j₁)) (r * j)) → HasWidth chance v → Carries later chance result → EnclosesWorth (q * num) (j * (r * a₁)) most (w + (v + 1) * most) result
+pub carried-worth : (later chance result : Ends) (num j₁ a₁ q r j most w v : ℕ) → EnclosesSetWorth num (j₁ * a₁) most w later → (j₁ ≡ 0 → num ≡ 0)
+    → (0 < j → Encloses chance (pos (q * j₁)) (r * j)) → HasWidth chance v → Carries later chance result → EnclosesSetWorth (q * num) (j * (r * a₁)) most (w + (v + 1) * most) result
 carried-worth later chance result num j₁ a₁ q r j most w v worth none c near carries = record {
   encloses = carried-encloses later chance result num j₁ a₁ q r j worth.encloses none c carries;
   narrow = carries.narrow most v w worth.within.high worth.narrow near;
@@ -76,8 +76,8 @@ carried-worth later chance result num j₁ a₁ q r j most w v worth none c near
 }
 
 -- and what is paid before
-pub paid-worth : (before result : Ends) (num den most w paid : ℕ) → EnclosesWorth num den most w before
-    → result.lo ≡ before.lo +ℤ pos (paid * fine) → result.hi ≡ before.hi +ℤ pos (paid * fine) → EnclosesWorth (paid * den + num) den (paid + most) w result
+pub paid-worth : (before result : Ends) (num den most w paid : ℕ) → EnclosesSetWorth num den most w before
+    → result.lo ≡ before.lo +ℤ pos (paid * fine) → result.hi ≡ before.hi +ℤ pos (paid * fine) → EnclosesSetWorth (paid * den + num) den (paid + most) w result
 paid-worth before result num den most w paid worth lo hi = record {
   encloses = λ some.
       let one : Encloses (record { lo = pos (paid * fine); hi = pos (paid * fine) }) (pos (paid * den)) den = exactly paid den in
@@ -127,11 +127,11 @@ pub carried-set : (b : Basis) → AreLives b.lives → (n : ℕ) (s : List Bool)
     → HasWidth chance v → v ≤ 2 * n + 2 → Carries later chance result → EnclosesCarried b n paid s t years result
 carried-set b rule n s paid years t v later chance result before worth c near small carries =
     let back = carried-worth later chance result (backward b s paid (suc t) years) (joint_survivors (suc t) (in_set s) b.lives) (accumulated b (suc t)) (b.q t) (b.p t + b.q t) (joint_survivors t (in_set s) b.lives)
-    (most_paid paid (suc t) years) ((n + 2) * waited paid (suc t) years) v worth (backward-gone b rule s paid years (suc t)) c near carries in
+    (paid_in_all paid (suc t) years) ((n + 2) * waited paid (suc t) years) v worth (backward-gone b rule s paid years (suc t)) c near carries in
     let e = accumulated-year b t before in
     record {
       encloses = rw e back.encloses;
-      narrow = wider result _ _ (enough n v (most_paid paid (suc t) years) (waited paid (suc t) years) small) back.narrow;
+      narrow = wider result _ _ (enough n v (paid_in_all paid (suc t) years) (waited paid (suc t) years) small) back.narrow;
       within = back.within;
     }
   where

@@ -21,26 +21,26 @@ use Rattle.halo_model.specs.Coefficient.{form}
 use Rattle.halo_model.specs.Counts.{Measures, form_weight, greatest, greatest_factor, size, width_count}
 use Rattle.halo_model.specs.Segment.{coefficients_at, first_time, last_time_of_form}
 use Rattle.halo_model.specs.Backward.{above_zero, below_zero, gain, loss, may_pay, paid_at, years_passed}
-use Rattle.halo_annuity.specs.Worth.{most_paid, waited}
+use Rattle.halo_annuity.specs.Worth.{paid_in_all, waited}
 
 -- what is paid by two is paid by both
-most_paid-add : (f g : ℕ → ℕ) (years t : ℕ) → most_paid (λ u. f u + g u) t years ≡ most_paid f t years + most_paid g t years
-most_paid-add f g zero t = refl
-most_paid-add f g (suc years) t = omega (arith, most_paid-add f g years (suc t))
+paid_in_all-add : (f g : ℕ → ℕ) (years t : ℕ) → paid_in_all (λ u. f u + g u) t years ≡ paid_in_all f t years + paid_in_all g t years
+paid_in_all-add f g zero t = refl
+paid_in_all-add f g (suc years) t = omega (arith, paid_in_all-add f g years (suc t))
 
 waited-add : (f g : ℕ → ℕ) (years t : ℕ) → waited (λ u. f u + g u) t years ≡ waited f t years + waited g t years
 waited-add f g zero t = refl
-waited-add f g (suc years) t = omega (arith, most_paid-add f g years (suc t), waited-add f g years (suc t))
+waited-add f g (suc years) t = omega (arith, paid_in_all-add f g years (suc t), waited-add f g years (suc t))
 
 module _ {X : Type 0} (xs : List X) (paid : X → ℕ → ℕ) (bound : ℕ) where
   -- what is paid at each time to all together is at most a bound
   abbrev pub AtMost : ℕ → ℕ → Type 0
   AtMost t years = (u : ℕ) → t ≤ u → u < t + years → sum_over xs (λ x. paid x u) ≤ bound
 
-  pub most-together : (years t : ℕ) → AtMost t years → sum_over xs (λ x. most_paid (paid x) t years) ≤ years * bound
+  pub most-together : (years t : ℕ) → AtMost t years → sum_over xs (λ x. paid_in_all (paid x) t years) ≤ years * bound
   most-together zero t h = omega (arith, sum_over-none xs)
   most-together (suc years) t h =
-      omega (arith, sum_over-add xs (λ x. paid x t) (λ x. most_paid (paid x) (suc t) years), h t (omega arith) (omega arith), most-together years (suc t) (λ u from below. h u (omega arith) (omega arith)))
+      omega (arith, sum_over-add xs (λ x. paid x t) (λ x. paid_in_all (paid x) (suc t) years), h t (omega arith) (omega arith), most-together years (suc t) (λ u from below. h u (omega arith) (omega arith)))
 
   -- and so carried back over the years it is at most so many times the bound, times one year less
   pub waited-together : (years t h : ℕ) → years ≤ suc h → AtMost t years → sum_over xs (λ x. waited (paid x) t years) ≤ years * h * bound
@@ -51,8 +51,8 @@ module _ {X : Type 0} (xs : List X) (paid : X → ℕ → ℕ) (bound : ℕ) whe
   waited-together (suc years) t (suc h) few each =
       let later = waited-together years (suc t) h (omega arith) (λ u from below. each u (omega arith) (omega arith)) in
       let most = most-together years (suc t) (λ u from below. each u (omega arith) (omega arith)) in
-      let twice = sum_over-scale xs 2 (λ x. most_paid (paid x) (suc t) years) in
-      let split = sum_over-add xs (λ x. 2 * most_paid (paid x) (suc t) years) (λ x. waited (paid x) (suc t) years) in
+      let twice = sum_over-scale xs 2 (λ x. paid_in_all (paid x) (suc t) years) in
+      let split = sum_over-add xs (λ x. 2 * paid_in_all (paid x) (suc t) years) (λ x. waited (paid x) (suc t) years) in
       let less : years * bound ≤ (h + 1) * bound = mul-le-mul_right bound (omega arith) in
       omega (arith, later, most, twice, split, less)
 

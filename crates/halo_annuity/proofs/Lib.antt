@@ -12,6 +12,7 @@ pub mod TaskFacts
 pub mod Living
 pub mod Clamped
 pub mod TaskBounds
+pub mod Values
 pub mod OneSet
 pub mod RunWorths
 pub mod Terms

@@ -18,7 +18,7 @@ use Rattle.halo_model.specs.Basis.{Basis}
 use Rattle.halo_model.specs.Backward.{above_zero, below_zero, gain, loss, paid_at}
 use Rattle.halo_life.specs.Lists.{Lists}
 use Rattle.halo_life.specs.Total.{AreModest}
-use Rattle.halo_annuity.specs.Worth.{HoldCarried, HoldValues, most_paid}
+use Rattle.halo_annuity.specs.Worth.{HoldCarried, HoldValues, paid_in_all}
 use Rattle.halo_annuity.proofs.Counting.{paid-within}
 use Rattle.halo_sums.proofs.SetMasks.{length-bits}
 use Rattle.halo_annuity.proofs.Survivors.{size-within}
@@ -61,7 +61,7 @@ module _ (pay : PlainPay) (one : pay.amount ≡ 1) (varies : HasValidVary pay.va
       let c : below_zero (form pay t (bits n mask)) ≤ 2 ^ 11 = below-sized (form pay t (bits n mask)) (2 ^ 11) (sized t) in
       mul-le (paid_at pay T t) (below_zero (form pay t (bits n mask))) 201 (2 ^ 11) paid c
 
-pub most-small : (paid : ℕ → ℕ) (bound years t : ℕ) → ((u : ℕ) → u ≤ 200 → paid u ≤ bound) → t + years ≤ 201 → most_paid paid t years ≤ years * bound
+pub most-small : (paid : ℕ → ℕ) (bound years t : ℕ) → ((u : ℕ) → u ≤ 200 → paid u ≤ bound) → t + years ≤ 201 → paid_in_all paid t years ≤ years * bound
 most-small paid bound zero t each h = omega arith
 most-small paid bound (suc years) t each h = omega (arith, each t (omega (arith, h)), most-small paid bound years (suc t) each (omega (arith, h)))
 

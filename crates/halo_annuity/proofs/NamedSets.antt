@@ -19,7 +19,7 @@ use Rattle.halo_model.specs.Backward.{backward, gain, lies_in, loss}
 use Rattle.halo_model.proofs.Unnamed.{unnamed-do-not-count}
 use Rattle.halo_life.specs.Lists.{Lists, entry, nothing}
 use Rattle.halo_life.specs.Total.{is_within}
-use Rattle.halo_annuity.specs.RunWorth.{EnclosesYear}
+use Rattle.halo_annuity.specs.RunWorth.{EnclosesDiscountedSurvival}
 use Rattle.halo_annuity.specs.Worth.{Carries, EnclosesCarried, EnclosesSet}
 use Rattle.halo_annuity.proofs.Carried.{carried-set}
 use Rattle.halo_annuity.proofs.Counting.{sums-of-masks}
@@ -156,7 +156,7 @@ times-none q m e = rw e (omega arith)
 -- a value carried back by a year
 pub record Year (b : Basis) (n mask t : ℕ) (later result : Ends) : Type 0 where
   pub chance : Ends
-  pub year : EnclosesYear b n (bits n mask) t chance
+  pub year : EnclosesDiscountedSurvival b n (bits n mask) t chance
   pub carries : Carries later chance result
 
 -- the sets of named lives are carried back, and no other set is worth anything

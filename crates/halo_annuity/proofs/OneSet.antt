@@ -10,7 +10,7 @@ use Rattle.halo_model.specs.Life.{after_first}
 use Rattle.halo_model.specs.Basis.{Basis}
 use Rattle.halo_model.specs.Outcome.{joint_survivors}
 use Rattle.halo_life.specs.Products.{product_in}
-use Rattle.halo_annuity.specs.RunWorth.{EnclosesYear}
+use Rattle.halo_annuity.specs.RunWorth.{EnclosesDiscountedSurvival}
 use Rattle.halo_annuity.proofs.Carried.{wider}
 use Rattle.halo_annuity.proofs.Survivors.{size-within}
 
@@ -67,7 +67,7 @@ sure i lo hi = record {
 pub one-year : (b : Basis) (n t : ℕ) (s : List Bool) (num den : ℕ) (i : Ends) → length s ≡ n
     → EnclosesChance (b.q t * num) ((b.p t + b.q t) * den) (1 + 2 * size_of s + 1) i
     → (0 < joint_survivors t (in_set s) b.lives → (num ≡ joint_survivors (suc t) (in_set s) b.lives) × (den ≡ joint_survivors t (in_set s) b.lives))
-    → EnclosesYear b n s t i
+    → EnclosesDiscountedSurvival b n s t i
 one-year b n t s num den i long chance are = record {
   encloses = λ some. let is = are some in rw (is.0, is.1) at chance.encloses;
   narrow = wider i (1 + 2 * size_of s + 1) (2 * n + 2) (omega (arith, size-within s, long)) chance.narrow;

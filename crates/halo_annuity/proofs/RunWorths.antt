@@ -32,8 +32,8 @@ use Rattle.halo_model.specs.RunPart.{paid_to_set, times_of}
 use Rattle.halo_model.proofs.Backward.{backward-sums}
 use Rattle.halo_compile.specs.Form.{IsInForm}
 use Rattle.halo_life.specs.Lists.{nothing}
-use Rattle.halo_annuity.specs.RunWorth.{EnclosesYear, paid_in}
-use Rattle.halo_annuity.specs.Worth.{Carries, EnclosesCarried, EnclosesSet, most_paid, waited}
+use Rattle.halo_annuity.specs.RunWorth.{EnclosesDiscountedSurvival, paid_in}
+use Rattle.halo_annuity.specs.Worth.{Carries, EnclosesCarried, EnclosesSet, paid_in_all, waited}
 use Rattle.halo_annuity.proofs.Carried.{carried-set, paid-set}
 use Rattle.halo_annuity.proofs.Counting.{count-has-room, most-together, paid-within, sizes-within, waited-together}
 use Rattle.halo_annuity.proofs.Modest.{factor-sized, most-small, small-within}
@@ -74,7 +74,7 @@ module _ (pay : PlainPay) (run : Run) (times : ℕ) where
 
 -- one year back
 module _ (b : Basis) (pay : PlainPay) (run : Run) (times n : ℕ) (s : List Bool) where
-  pub run-carried : AreLives b.lives → (years t : ℕ) (later chance result : Ends) → t < b.last_time → EnclosesSet b n (paid_in pay run times) s (suc t) years later → EnclosesYear b n s t chance → Carries later chance result
+  pub run-carried : AreLives b.lives → (years t : ℕ) (later chance result : Ends) → t < b.last_time → EnclosesSet b n (paid_in pay run times) s (suc t) years later → EnclosesDiscountedSurvival b n s t chance → Carries later chance result
       → EnclosesCarried b n (paid_in pay run times) s t years result
   run-carried rule years t later chance result before worth year carries =
       carried-set b rule n s (paid_in pay run times) years t (2 * n + 2) later chance result before worth year.encloses year.narrow (omega arith) carries
@@ -226,7 +226,7 @@ module _ (b : Basis) (pay : PlainPay) (annual : pay.kind ≢ Insurance) (one : p
   most-is Due k = refl
   most-is Immediate k = refl
 
-  pub part-sized : most_paid (paid_in pay run times) 0 (suc run.last) ≤ form_weight pay (length b.lives) years * most_worth pay.kind (measures_of b pay)
+  pub part-sized : paid_in_all (paid_in pay run times) 0 (suc run.last) ≤ form_weight pay (length b.lives) years * most_worth pay.kind (measures_of b pay)
   part-sized =
       let w = most-together (0 ∷ []) (λ (k : ℕ) u. paid_in pay run times u) bound (suc run.last) 0 (λ u from below. each u (omega arith)) in
       let m : suc run.last * bound ≤ (years + 1) * bound = mul-le-mul_right bound (omega (arith, to-years)) in

@@ -1,7 +1,8 @@
 -- What a valid task says of its numbers, its lives and its pay.
-use Rattle.std.proofs.Common.{◌≡◌, ◌≢◌, ℕ, zero, suc, ◌+◌, ◌*◌, ◌^◌, ◌<◌, ◌≤◌, List, [], ◌∷◌, length, Bool, cond, true, false, Option, Some, None, arith, refl, ⊎_elim}
+use Rattle.std.proofs.Common.{◌≡◌, ◌≢◌, ℕ, zero, suc, ◌+◌, ◌-◌, ◌*◌, ◌^◌, ◌<◌, ◌≤◌, List, [], ◌∷◌, length, Bool, cond, true, false, Option, Some, None, arith, refl, ⊎_elim}
 use Rattle.std.proofs.Math.Nat.{pow-le-pow_right}
 use Rattle.std.proofs.lemmas.Bool.{cases_lt}
+use Rattle.std.proofs.lemmas.Nat.{mul-le}
 use Rattle.std.proofs.lemmas.List.{length-map}
 use Rattle.std.proofs.lemmas.List.Elements.{All-from_get_or}
 use Rattle.halo_sums.specs.Sums.{numbers_from, product_over}
@@ -26,6 +27,14 @@ use Rattle.halo_model.proofs.HorizonIsLeast.{horizon-is-least}
 use Rattle.halo_life.specs.Lists.{Lists}
 use Rattle.halo_life.specs.PlainGroup.{IsGroup, PlainGroup}
 use Rattle.halo_life.specs.Total.{AreModest}
+use Rattle.halo_interest.specs.Rates.{IsInterest, rate_of}
+use Rattle.halo_interest.proofs.InForce.{in_force_is}
+use Rattle.halo_sums.specs.Masks.{has_bit}
+use Rattle.halo_model.specs.Basis.{accumulated}
+use Rattle.halo_model.specs.Order.{declared_order}
+use Rattle.halo_compile.specs.declared.task.Task.{Task}
+use Rattle.halo_annuity.specs.AtTime.{HaveSurvivorsAt}
+use Rattle.halo_annuity.specs.OfTask.{basis_of_task}
 use Rattle.halo_annuity.proofs.Carried.{positive-both}
 use Rattle.halo_annuity.proofs.Counting.{never-before}
 
@@ -113,6 +122,26 @@ pub some-interest : (p q : ℕ → ℕ) → ((k : ℕ) → 1 ≤ q k) → (count
 some-interest p q h zero first = omega arith
 some-interest p q h (suc count) first = positive-both _ _ (omega (arith, h first)) (some-interest p q h count (suc first))
 
--- a pass makes few enough products
-pub pass-cost : (m h n : ℕ) → 4 * m * h ≤ 8 * (h + 1) * (n + 1) * m
-pass-cost m h n = omega arith
+module _ {n m : ℕ} (task : Task n m) where
+  -- the living of a set have survivors together
+  pub survivors-there : IsGroup n task.group.now → (t alive : ℕ) → HaveSurvivorsAt task t alive
+      → 0 < joint_survivors t (has_bit alive) (lives_of task.group.now.file task.group.now.lives)
+  survivors-there group t alive there =
+      some-survive task.group.now.file t (has_bit alive) task.group.now.lives
+          (λ i below. there i (omega (arith, below, group.count)))
+
+  -- 1 is worth something with the interest of the task
+  pub interest-there : IsInterest task.interest.now → (t : ℕ)
+      → 0 < accumulated (basis_of_task task declared_order) t
+  interest-there interest t = some-interest
+      (λ k. (rate_of task.interest.now k).p) (λ k. (rate_of task.interest.now k).q)
+      (λ k. (in_force_is task.interest.now interest k).q_from) (200 - t) t
+
+-- a pass over some of the years of a horizon makes few enough products
+pub pass-cost : (years horizon named sets : ℕ) → years ≤ horizon
+    → (named + 3) * sets * years ≤ 8 * (horizon + 1) * (named + 1) * sets
+pass-cost years horizon named sets h =
+    let year : (named + 3) * sets ≤ 8 * ((named + 1) * sets) = omega arith in
+    let all : (named + 3) * sets * years ≤ 8 * ((named + 1) * sets) * (horizon + 1) =
+        mul-le ((named + 3) * sets) years (8 * ((named + 1) * sets)) (horizon + 1) year (omega arith) in
+    omega (arith, all)

@@ -1,5 +1,5 @@
 pub mod Worth
-pub mod OneStep
-pub mod Pass
+pub mod Growth
+pub mod OfTask
 pub mod RunWorth
 pub mod AtTime

@@ -11,26 +11,32 @@ use Rattle.halo_model.specs.Order.{Ties}
 use Rattle.halo_model.specs.Segment.{Run}
 use Rattle.halo_model.specs.Backward.{paid_at}
 use Rattle.halo_compile.specs.declared.task.Task.{Task}
-use Rattle.halo_annuity.specs.Pass.{basis_of_task, pay_of_task}
+use Rattle.halo_annuity.specs.OfTask.{basis_of_task, pay_of_task}
 use Rattle.halo_annuity.specs.Worth.{Carries, EnclosesSet}
 
--- so many times what an annuity valued at the start pays, at the times of a run, and nothing at other times
+-- so many times what an annuity valued at time 0 pays, at the times of a run, and nothing at others
 abbrev pub paid_in : PlainPay → Run → ℕ → ℕ → ℕ
-paid_in pay run times t = cond (nat_le run.first t && nat_le t run.last) (paid_at pay 0 t * times) 0
-
--- i encloses the discount of year t times the chance of a set of n lives, all alive at t, to survive it
-pub record EnclosesYear (b : Basis) (n : ℕ) (s : List Bool) (t : ℕ) (i : Ends) : Type 0 where
-  pub encloses : 0 < joint_survivors t (in_set s) b.lives
-      → Encloses i (pos (b.q t * joint_survivors (suc t) (in_set s) b.lives)) ((b.p t + b.q t) * joint_survivors t (in_set s) b.lives)
-  pub narrow : HasWidth i (2 * n + 2)
-  pub within : IsWithin i (pos 0) (pos fine)
+paid_in pay run times t =
+    cond (nat_le run.first t && nat_le t run.last) (paid_at pay 0 t * times) 0
 
 -- i encloses what a set is paid so many times in the run, in so many years from t on
 abbrev pub EnclosesRun : {n m : ℕ} → Task n m → Run → ℕ → ℕ → ℕ → ℕ → Ends → Type 0
-EnclosesRun {n} {m} task run times mask t years i = (ties : Ties) → EnclosesSet (basis_of_task task ties) n (paid_in (pay_of_task task) run times) (bits n mask) t years i
+EnclosesRun {n} task run times mask t years i = (ties : Ties) →
+    let paid = paid_in (pay_of_task task) run times in
+    EnclosesSet (basis_of_task task ties) n paid (bits n mask) t years i
 
--- a value of a set is carried back from time t + 1 to t: by the discount of the year times the chance of the set to survive it
+-- i encloses the discount of year t times the chance of a set of n lives, all alive at t, to survive it
+pub record EnclosesDiscountedSurvival (b : Basis) (n : ℕ) (s : List Bool) (t : ℕ) (i : Ends) : Type 0 where
+  pub encloses : 0 < joint_survivors t (in_set s) b.lives →
+      Encloses i
+          (pos (b.q t * joint_survivors (suc t) (in_set s) b.lives))
+          ((b.p t + b.q t) * joint_survivors t (in_set s) b.lives)
+  pub narrow : HasWidth i (2 * n + 2)
+  pub within : IsWithin i (pos 0) (pos fine)
+
+-- a value of a set is carried back from time t + 1 to t: by the discount of the year times the chance
+-- of the set to survive it
 pub record CarriesYear {n m : ℕ} (task : Task n m) (t mask : ℕ) (later result : Ends) : Type 0 where
   pub chance : Ends
-  pub year : (ties : Ties) → EnclosesYear (basis_of_task task ties) n (bits n mask) t chance
+  pub year : (ties : Ties) → EnclosesDiscountedSurvival (basis_of_task task ties) n (bits n mask) t chance
   pub carries : Carries later chance result

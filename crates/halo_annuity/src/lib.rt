@@ -2,20 +2,23 @@
 //!
 //! At each time each set of lives has two values, what its coefficient adds and what it takes off:
 //! what is paid then, and the values of the next time, discounted for a year and times the chance of
-//! the set to survive it. One pass from the last time of the form to the start of the group gives
-//! them for all sets; the value on some living lives is the total over their subsets.
+//! the set to survive it. At the horizon nothing is left to be paid; one step gives the values of all
+//! sets at a time by those a year later, whatever the time of the valuation. The value at a time on
+//! some living lives is the total over their subsets.
 #![tactic(auto)]
 
 mod annuities;
-mod backward;
 mod carry;
+mod coefficient;
 mod named;
 mod one_set;
 mod payment;
 mod sets;
 mod step;
 mod term;
+mod value;
 
 pub use annuities::{annuity, annuity_all};
-pub use step::{at_horizon, value_at, year_back};
+pub use step::{at_horizon, year_back};
 pub use term::term_value;
+pub use value::value_at;

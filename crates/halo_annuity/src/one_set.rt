@@ -8,8 +8,8 @@ ghost use Rattle.halo_model.specs.Order.{Ties};
 ghost use Rattle.halo_life.specs.PlainGroup.{started, surviving};
 ghost use Rattle.halo_life.specs.Products.{product_in};
 ghost use Rattle.halo_compile.specs.ValidTask.{IsTask};
-ghost use Rattle.halo_annuity.specs.Pass.{basis_of_task};
-ghost use Rattle.halo_annuity.specs.RunWorth.{EnclosesYear};
+ghost use Rattle.halo_annuity.specs.OfTask.{basis_of_task};
+ghost use Rattle.halo_annuity.specs.RunWorth.{EnclosesDiscountedSurvival};
 
 use halo_compile::Task;
 use halo_life::Group;
@@ -26,7 +26,7 @@ pub fn year<const N: usize, const M: usize, L: Ledger>(
 ) -> Ival
     requires task { IsTask task.now }
     requires time { t < 200 }
-    ensures year { (ties : Ties) → EnclosesYear (basis_of_task task.now ties) N (bits N set) t result }
+    ensures year { (ties : Ties) → EnclosesDiscountedSurvival (basis_of_task task.now ties) N (bits N set) t result }
     ensures within { IsWithin result (pos 0) (pos fine) }
     ensures cost { steps.new ≤ steps.old + size_of (bits N set) + 1 }
 {

@@ -1,17 +1,11 @@
-// The pass year by year: all sets of lives at the horizon, a year back, and the value at any time.
-ghost use Rattle.std.specs.Prelude.{◌≡◌, ◌≢◌, ℕ, suc, ◌+◌, ◌-◌, ◌*◌, ◌^◌, ◌<◌, ◌≤◌, pos};
-ghost use Rattle.halo_sums.specs.Masks.{has_bit};
-ghost use Rattle.halo_num.specs.Ends.{HasWidth};
-ghost use Rattle.halo_num.specs.Enclosure.{Encloses};
-ghost use Rattle.halo_status.specs.Pay.{pay_of};
+// The pass year by year: all sets of lives at the horizon, and a year back.
+ghost use Rattle.std.specs.Prelude.{◌≡◌, ◌≢◌, ℕ, suc, ◌+◌, ◌*◌, ◌^◌, ◌<◌, ◌≤◌};
 ghost use Rattle.halo_status.specs.declared.pay.Kind.TheVariants.{Due, Immediate, Insurance};
-ghost use Rattle.halo_model.specs.Counts.{lives_named, measures_of, width_count};
 ghost use Rattle.halo_model.specs.Order.{Ties};
-ghost use Rattle.halo_model.specs.Value.{denominator, numerator};
 ghost use Rattle.halo_life.specs.Total.{AreModest};
 ghost use Rattle.halo_compile.specs.ValidTask.{IsTask};
-ghost use Rattle.halo_annuity.specs.Pass.{basis_of_task, last_of_task, pay_of_task};
-ghost use Rattle.halo_annuity.specs.AtTime.{HaveSurvivorsAt, HoldAt};
+ghost use Rattle.halo_annuity.specs.AtTime.{HoldAt};
+ghost use Rattle.halo_annuity.specs.OfTask.{basis_of_task, last_of_task, named_of_task, pay_of_task};
 ghost use Rattle.halo_annuity.specs.Worth.{HoldCarried, HoldValues};
 
 use crate::named::carry_named_sets;
@@ -19,7 +13,7 @@ use crate::payment::paid_at;
 use crate::sets::{clear, pay_sets};
 use halo_compile::Task;
 use halo_life::Work;
-use halo_num::{Ival, Steps};
+use halo_num::Steps;
 use halo_status::Kind;
 use std::sync::ledger::Ledger;
 
@@ -47,37 +41,12 @@ pub fn year_back<const N: usize, const M: usize, L: Ledger>(
     requires time { t < task.now.horizon }
     requires values { HoldAt task.now (suc t) work.old }
     ensures values { HoldAt task.now t work.new }
-    ensures cost { steps.new ≤ steps.old + (lives_named N (pay_of task.now.pay.now).body + 3) * 2 ^ lives_named N (pay_of task.now.pay.now).body }
+    ensures cost { steps.new ≤ steps.old + (named_of_task task.now + 3) * 2 ^ named_of_task task.now }
 {
     match task.pay.kind {
         Kind::Immediate => year_back_immediate(task, t, work, steps),
         _ => year_back_due(task, t, work, steps),
     }
-}
-
-/// The value at time `t` of an annuity of 1 with the lives of a set alive, each of which has a row at its
-/// age then: of the payments from `t` on, or after `t` where it is immediate. It is no wider than its
-/// count.
-pub fn value_at<const N: usize, const M: usize>(
-    task: &Task<N, M>,
-    t: u16,
-    alive: u16,
-    work: &Work<M>,
-) -> Ival
-    requires task { IsTask task.now }
-    requires annuity { task.now.pay.now.kind ≢ Insurance }
-    requires time { t ≤ 200 }
-    requires values { HoldAt task.now t work.now }
-    requires alive { HaveSurvivorsAt task.now t alive }
-    ensures encloses { (ties : Ties) → Encloses result
-        (pos (numerator (basis_of_task task.now ties) (pay_of_task task.now) t (has_bit alive)))
-        (denominator (basis_of_task task.now ties) t (has_bit alive)) }
-    ensures narrow { (ties : Ties) → HasWidth result (width_count (measures_of (basis_of_task task.now ties) (pay_of_task task.now))) }
-{
-    // The proof sees here that each year has a fraction, and that the lives have rows.
-    let _fractions = task.interest.fractions();
-    let _start = task.group.start();
-    work.total(alive)
 }
 
 // A year back of an annuity-due: what is paid at time t + 1 and later is carried back, and what is paid
@@ -93,7 +62,7 @@ fn year_back_due<const N: usize, const M: usize, L: Ledger>(
     requires time { t < task.now.horizon }
     requires values { HoldAt task.now (suc t) work.old }
     ensures values { HoldAt task.now t work.new }
-    ensures cost { steps.new ≤ steps.old + (lives_named N (pay_of task.now.pay.now).body + 3) * 2 ^ lives_named N (pay_of task.now.pay.now).body }
+    ensures cost { steps.new ≤ steps.old + (named_of_task task.now + 3) * 2 ^ named_of_task task.now }
 {
     let _start = task.group.start();
     carry_named_sets(task, t, task.pay.body.lives(), work, steps);
@@ -113,7 +82,7 @@ fn year_back_immediate<const N: usize, const M: usize, L: Ledger>(
     requires time { t < task.now.horizon }
     requires values { HoldAt task.now (suc t) work.old }
     ensures values { HoldAt task.now t work.new }
-    ensures cost { steps.new ≤ steps.old + (lives_named N (pay_of task.now.pay.now).body + 3) * 2 ^ lives_named N (pay_of task.now.pay.now).body }
+    ensures cost { steps.new ≤ steps.old + (named_of_task task.now + 3) * 2 ^ named_of_task task.now }
 {
     let _start = task.group.start();
     pay(task, t, t + 1, work);

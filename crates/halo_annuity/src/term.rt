@@ -12,13 +12,13 @@ ghost use Rattle.halo_model.specs.RunPart.{run_part};
 ghost use Rattle.halo_model.specs.Value.{denominator};
 ghost use Rattle.halo_compile.specs.Form.{IsInForm, run_of, segment_at};
 ghost use Rattle.halo_compile.specs.ValidTask.{IsTask};
-ghost use Rattle.halo_annuity.specs.Pass.{basis_of_task, pay_of_task};
+ghost use Rattle.halo_annuity.specs.OfTask.{basis_of_task, pay_of_task};
 ghost use Rattle.halo_annuity.specs.RunWorth.{EnclosesRun};
 
 use crate::carry::carried;
+use crate::coefficient::{above_zero, below_zero, ones};
 use crate::one_set::year;
 use crate::payment::paid_at;
-use crate::sets::{above_zero, below_zero, ones};
 use halo_compile::{Form, Segment, Task};
 use halo_num::{Ival, Steps};
 use std::sync::ledger::Ledger;

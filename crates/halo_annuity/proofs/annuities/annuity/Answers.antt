@@ -1,62 +1,31 @@
-use Rattle.std.proofs.Common.{◌≡◌, ℕ, ◌*◌, true, pos, arith, ap, sym, subst, ◌∙◌}
-use Rattle.std.proofs.lemmas.Int.{ints}
+use Rattle.std.proofs.Common.{◌≡◌, ℕ, true, arith, lit<, subst, sym}
 use Rattle.halo_sums.specs.Masks.{has_bit}
-use Rattle.halo_num.specs.Ends.{fine}
-use Rattle.halo_num.specs.Enclosure.{Encloses}
-use Rattle.halo_model.specs.Counts.{measures_of, most_worth}
-use Rattle.halo_model.specs.Order.{declared_order}
-use Rattle.halo_model.specs.Value.{denominator, numerator}
-use Rattle.halo_life.specs.Total.{total_of}
-use Rattle.halo_annuity.specs.Pass.{basis_of_task, pay_of_task}
-use Rattle.halo_annuity.proofs.Clamped.{meets-above, meets-below}
+use Rattle.halo_annuity.specs.AtTime.{EnclosesAnnuity, HaveSurvivorsAt, HoldAt, PaysAtOnce}
 use Rattle.halo_annuity.proofs.Living.{living-survive}
-use Rattle.halo_annuity.proofs.TaskBounds.{most-of-task, same-ends, some-denominator, value-above, value-below}
 use Rattle.halo_annuity.proofs.annuities.annuity.Goals as goal
 
-pub between-requires-clause-meets_most : goal.between-requires-clause-meets_most
-between-requires-clause-meets_most g c =
+pub value_at-requires : goal.value_at-requires
+value_at-requires g c =
     let task = c.args.task.now in
-    let is = c.requires.task in
-    let group = c.alive.ensures.group in
-    let b = basis_of_task task declared_order in
-    let num : ℕ = numerator b (pay_of_task task) task.group.now.start (has_bit task.group.now.alive) in
-    let den : ℕ = denominator b task.group.now.start (has_bit task.group.now.alive) in
-    let all = subst (λ (alive : ℕ). Encloses (total_of c.annuity_all.new.work g.row.M c.alive.result) (pos (numerator b (pay_of_task task) task.group.now.start (has_bit alive))) (denominator b task.group.now.start (has_bit alive))) c.alive.ensures.value
-    (c.annuity_all.ensures.encloses declared_order c.alive.result (λ i below alive. living-survive g.row.N task.group.now group i below (subst (λ (m : ℕ). has_bit m i ≡ true) c.alive.ensures.value alive))) in
-    meets-above c.total-total.result num den c.most_worth.result (some-denominator task group c.fractions-fractions.ensures.interest) (same-ends c.total-total.result (total_of c.annuity_all.new.work g.row.M c.alive.result) num den c.total-total.ensures.lo c.total-total.ensures.hi all)
-    (value-above task is group c.requires.annuity declared_order c.most_worth.result c.most_worth.ensures.value)
-
-pub between-requires-clause-meets_least : goal.between-requires-clause-meets_least
-between-requires-clause-meets_least g c =
-    let task = c.args.task.now in
-    let is = c.requires.task in
-    let group = c.alive.ensures.group in
-    let b = basis_of_task task declared_order in
-    let num : ℕ = numerator b (pay_of_task task) task.group.now.start (has_bit task.group.now.alive) in
-    let den : ℕ = denominator b task.group.now.start (has_bit task.group.now.alive) in
-    let all = subst (λ (alive : ℕ). Encloses (total_of c.annuity_all.new.work g.row.M c.alive.result) (pos (numerator b (pay_of_task task) task.group.now.start (has_bit alive))) (denominator b task.group.now.start (has_bit alive))) c.alive.ensures.value
-    (c.annuity_all.ensures.encloses declared_order c.alive.result (λ i below alive. living-survive g.row.N task.group.now group i below (subst (λ (m : ℕ). has_bit m i ≡ true) c.alive.ensures.value alive))) in
-    meets-below c.total-total.result num den c.least_worth.result (some-denominator task group c.fractions-fractions.ensures.interest) (same-ends c.total-total.result (total_of c.annuity_all.new.work g.row.M c.alive.result) num den c.total-total.ensures.lo c.total-total.ensures.hi all)
-    (value-below task is group c.requires.annuity declared_order c.least_worth.result c.least_worth.ensures.one)
+    let start = c.start.ensures.value in
+    let there : HaveSurvivorsAt task task.group.now.start c.alive.result = λ i below alive.
+        living-survive g.row.N task.group.now c.alive.ensures.group i below
+            (subst (λ (mask : ℕ). has_bit mask i ≡ true) c.alive.ensures.value alive) in
+    (lit< tt, (lit< tt, (c.requires.task, (c.requires.annuity, (
+      omega (arith, start, c.start.ensures.group.time), (
+        subst (λ (t : ℕ). HoldAt task t c.annuity_all.new.work) (sym start) c.annuity_all.ensures.values,
+        subst (λ (t : ℕ). HaveSurvivorsAt task t c.alive.result) (sym start) there))))))
 
 pub returns-clause-encloses : goal.returns-clause-encloses
-returns-clause-encloses g c = λ ties.
+returns-clause-encloses g c =
     let task = c.args.task.now in
-    let is = c.requires.task in
-    let group = c.alive.ensures.group in
-    let b = basis_of_task task ties in
-    let num : ℕ = numerator b (pay_of_task task) task.group.now.start (has_bit task.group.now.alive) in
-    let den : ℕ = denominator b task.group.now.start (has_bit task.group.now.alive) in
-    let all = subst (λ (alive : ℕ). Encloses (total_of c.annuity_all.new.work g.row.M c.alive.result) (pos (numerator b (pay_of_task task) task.group.now.start (has_bit alive))) (denominator b task.group.now.start (has_bit alive))) c.alive.ensures.value
-    (c.annuity_all.ensures.encloses ties c.alive.result (λ i below alive. living-survive g.row.N task.group.now group i below (subst (λ (m : ℕ). has_bit m i ≡ true) c.alive.ensures.value alive))) in
-    c.between.ensures.encloses num den
-    (value-above task is group c.requires.annuity ties c.most_worth.result c.most_worth.ensures.value)
-    (value-below task is group c.requires.annuity ties c.least_worth.result c.least_worth.ensures.one)
-    (same-ends c.total-total.result (total_of c.annuity_all.new.work g.row.M c.alive.result) num den c.total-total.ensures.lo c.total-total.ensures.hi all)
+    subst (λ (t : ℕ). EnclosesAnnuity task t task.group.now.alive c.value_at.result) c.start.ensures.value
+        (subst (λ (alive : ℕ). EnclosesAnnuity task c.start.result alive c.value_at.result) c.alive.ensures.value
+            c.value_at.ensures.encloses)
 
-pub returns-clause-within : goal.returns-clause-within
-returns-clause-within g c = λ ties.
+pub returns-clause-one : goal.returns-clause-one
+returns-clause-one g c = λ at_once.
     let task = c.args.task.now in
-    let most : c.most_worth.result ≡ most_worth task.pay.now.kind (measures_of (basis_of_task task ties) (pay_of_task task)) = c.most_worth.ensures.value ∙ sym (most-of-task task c.requires.task c.alive.ensures.group c.requires.annuity ties) in
-    let high = ap (λ (n : ℕ). n * fine) most in
-    record { low = omega (arith, ints, c.between.ensures.within.low); high = omega (arith, ints, c.between.ensures.within.high, high) }
+    c.value_at.ensures.one
+        (subst (λ (t : ℕ). PaysAtOnce task t c.alive.result) (sym c.start.ensures.value)
+            (subst (λ (alive : ℕ). PaysAtOnce task task.group.now.start alive) (sym c.alive.ensures.value) at_once))

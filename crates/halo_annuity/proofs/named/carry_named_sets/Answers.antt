@@ -4,7 +4,7 @@ use Rattle.halo_status.specs.Pay.{pay_of}
 use Rattle.halo_model.specs.Counts.{lives_named}
 use Rattle.halo_life.specs.Lists.{entry, nothing}
 use Rattle.halo_life.specs.Total.{is_within}
-use Rattle.halo_annuity.specs.Pass.{basis_of_task, pay_of_task}
+use Rattle.halo_annuity.specs.OfTask.{basis_of_task, pay_of_task}
 use Rattle.halo_annuity.specs.RunWorth.{CarriesYear}
 use Rattle.halo_annuity.proofs.NamedSets.{count-next, named-carried, named-sets, one-cost}
 use Rattle.halo_annuity.proofs.OneMore.{one-more}

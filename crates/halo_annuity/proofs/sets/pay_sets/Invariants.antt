@@ -2,7 +2,7 @@ use Rattle.std.proofs.Common.{◌≡◌, ℕ, ◌*◌, ◌<◌, ◌≤◌}
 use Rattle.halo_life.specs.Lists.{entry}
 use Rattle.halo_model.specs.Backward.{above_zero, below_zero}
 use Rattle.halo_poly.specs.Poly.{coefficient_at}
-use Rattle.halo_annuity.specs.OneStep.{GrowsBy}
+use Rattle.halo_annuity.specs.Growth.{GrowsBy}
 use Rattle.halo_annuity.proofs.sets.pay_sets.Given as goal
 
 abbrev pub invariant-loop-set : goal.invariant-loop-set

@@ -1,0 +1,69 @@
+-- The values of all sets of lives at a time of a task: their totals enclose the annuity.
+use Rattle.std.proofs.Common.{◌≡◌, ◌≢◌, ℕ, suc, ◌-◌, ◌^◌, ◌≤◌, length, pos, arith, refl, sym, subst, ◌∙◌}
+use Rattle.halo_sums.specs.Masks.{has_bit}
+use Rattle.halo_num.specs.Ends.{Ends, HasWidth}
+use Rattle.halo_num.specs.Enclosure.{Encloses}
+use Rattle.halo_interest.specs.Rates.{IsInterest}
+use Rattle.halo_status.specs.Pay.{pay_of}
+use Rattle.halo_status.specs.declared.pay.Kind.TheVariants.{Insurance}
+use Rattle.halo_model.specs.Counts.{measures_of, width_count}
+use Rattle.halo_model.specs.FromTables.{lives_of}
+use Rattle.halo_model.specs.Order.{Ties, declared_order}
+use Rattle.halo_model.specs.Segment.{last_time_of_form}
+use Rattle.halo_model.specs.Value.{denominator, numerator}
+use Rattle.halo_life.specs.Lists.{Lists}
+use Rattle.halo_life.specs.PlainGroup.{IsGroup}
+use Rattle.halo_life.specs.Total.{AreModest, total_of}
+use Rattle.halo_compile.specs.ValidTask.{IsTask}
+use Rattle.halo_compile.specs.declared.task.Task.{Task}
+use Rattle.halo_annuity.specs.AtTime.{EnclosesAnnuity, HaveSurvivorsAt, HoldAt}
+use Rattle.halo_annuity.specs.OfTask.{basis_of_task, last_of_task, pay_of_task}
+use Rattle.halo_annuity.proofs.Modest.{values-modest}
+use Rattle.halo_annuity.proofs.TaskFacts.{count-lives, group-lives, interest-there, last-in, modest-same, no-mark, positive-ranks, some-nodes, some-years, survivors-there}
+use Rattle.halo_annuity.proofs.Totals.{total-encloses, total-narrow}
+
+-- an interval with the same ends encloses the same
+pub same-annuity : {n m : ℕ} (task : Task n m) (t alive : ℕ) (i j : Ends) → i.lo ≡ j.lo → i.hi ≡ j.hi
+    → EnclosesAnnuity task t alive j → EnclosesAnnuity task t alive i
+same-annuity task t alive i j lo hi is = record {
+  encloses = λ ties. let e = is.encloses ties in record { low = rw lo e.low; high = rw hi e.high };
+  narrow = λ ties. let w = is.narrow ties in record { near = rw (lo, hi) w.near };
+}
+
+module _ {n m : ℕ} (task : Task n m) (is : IsTask task) (group : IsGroup n task.group.now) (t : ℕ) (in_time : t ≤ 200)
+    (lists : Lists) (held : HoldAt task t lists) where
+  -- they are small numbers
+  pub held-modest : AreModest m lists
+  held-modest = modest-same (2 ^ n) m lists lists is.sets refl refl
+      (values-modest (basis_of_task task declared_order) (pay_of_task task) refl is.valid.vary t n group.few lists t
+          (suc (last_of_task task) - t)
+          (omega (arith, last-in task.pay.now.kind task.horizon, is.horizon_in, in_time)) (held declared_order))
+
+  -- and their total over the subsets of the living is the value of the annuity
+  pub held-annuity : task.pay.now.kind ≢ Insurance → IsInterest task.interest.now
+      → (alive : ℕ) → HaveSurvivorsAt task t alive → EnclosesAnnuity task t alive (total_of lists m alive)
+  held-annuity annual interest alive there =
+      subst (λ (k : ℕ). EnclosesAnnuity task t alive (total_of lists k alive)) (sym is.sets)
+          (record { encloses = encloses; narrow = narrow })
+    where
+      count : length (lives_of task.group.now.file task.group.now.lives) ≡ n
+      count = count-lives task.group.now ∙ group.count
+
+      last : last_time_of_form task.pay.now.kind task.horizon ≤ 200
+      last = omega (arith, last-in task.pay.now.kind task.horizon, is.horizon_in)
+
+      encloses : (ties : Ties) →
+          Encloses (total_of lists (2 ^ n) alive) (pos (numerator (basis_of_task task ties) (pay_of_task task) t (has_bit alive)))
+              (denominator (basis_of_task task ties) t (has_bit alive))
+      encloses ties =
+          total-encloses (basis_of_task task ties) (group-lives n task.group.now group) (pay_of_task task) annual
+              (no-mark (pay_of task.pay.now) is.valid annual) is.valid.lists (positive-ranks (pay_of task.pay.now) is.valid)
+              t n alive lists count in_time (rw is.horizon_is at last) (rw is.horizon_is at (held ties))
+              (survivors-there task group t alive there) (interest-there task interest t)
+
+      narrow : (ties : Ties) →
+          HasWidth (total_of lists (2 ^ n) alive) (width_count (measures_of (basis_of_task task ties) (pay_of_task task)))
+      narrow ties =
+          total-narrow (basis_of_task task ties) (pay_of_task task) annual refl (some-nodes (pay_of task.pay.now).body)
+              (some-years (lives_of task.group.now.file task.group.now.lives) (pay_of task.pay.now).body)
+              t n alive lists count group.few (rw is.horizon_is at (held ties))

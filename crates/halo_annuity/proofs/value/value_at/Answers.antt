@@ -1,0 +1,85 @@
+use Rattle.std.proofs.Common.{◌≡◌, ℕ, ◌*◌, arith, ap, lit<, sym, ◌∙◌}
+use Rattle.std.proofs.lemmas.Int.{ints}
+use Rattle.halo_sums.specs.Masks.{has_bit}
+use Rattle.halo_num.specs.Ends.{fine}
+use Rattle.halo_model.specs.Counts.{measures_of, most_worth}
+use Rattle.halo_model.specs.Order.{declared_order}
+use Rattle.halo_model.specs.Value.{denominator, numerator}
+use Rattle.halo_life.specs.Total.{total_of}
+use Rattle.halo_annuity.specs.OfTask.{basis_of_task, pay_of_task}
+use Rattle.halo_annuity.proofs.Clamped.{meets-above, meets-below}
+use Rattle.halo_annuity.proofs.TaskBounds.{most-of-task, some-denominator, value-above, value-below}
+use Rattle.halo_annuity.proofs.TaskFacts.{few-sets}
+use Rattle.halo_annuity.proofs.Values.{held-annuity, held-modest, same-annuity}
+use Rattle.halo_annuity.proofs.value.value_at.Goals as goal
+
+pub total-total-requires : goal.total-total-requires
+total-total-requires g c =
+    let r = c.requires in
+    (lit< tt, (few-sets g.row.N g.row.M r.task.sets c.start-start.ensures.group.few,
+        held-modest c.args.task.now r.task c.start-start.ensures.group c.args.t r.time c.args.work.now r.values))
+
+pub between-requires-clause-meets_most : goal.between-requires-clause-meets_most
+between-requires-clause-meets_most g c =
+    let r = c.requires in
+    let task = c.args.task.now in
+    let group = c.start-start.ensures.group in
+    let interest = c.fractions-fractions.ensures.interest in
+    let b = basis_of_task task declared_order in
+    let held = same-annuity task c.args.t c.args.alive c.total-total.result (total_of c.args.work.now g.row.M c.args.alive)
+        c.total-total.ensures.lo c.total-total.ensures.hi
+        (held-annuity task r.task group c.args.t r.time c.args.work.now r.values r.annuity interest c.args.alive r.alive) in
+    meets-above c.total-total.result (numerator b (pay_of_task task) c.args.t (has_bit c.args.alive))
+        (denominator b c.args.t (has_bit c.args.alive)) c.most_worth.result
+        (some-denominator task group interest c.args.t c.args.alive r.alive) (held.encloses declared_order)
+        (value-above task r.task group r.annuity declared_order c.args.t r.time c.args.alive c.most_worth.result
+            c.most_worth.ensures.value)
+
+pub between-requires-clause-meets_least : goal.between-requires-clause-meets_least
+between-requires-clause-meets_least g c =
+    let r = c.requires in
+    let task = c.args.task.now in
+    let group = c.start-start.ensures.group in
+    let interest = c.fractions-fractions.ensures.interest in
+    let b = basis_of_task task declared_order in
+    let held = same-annuity task c.args.t c.args.alive c.total-total.result (total_of c.args.work.now g.row.M c.args.alive)
+        c.total-total.ensures.lo c.total-total.ensures.hi
+        (held-annuity task r.task group c.args.t r.time c.args.work.now r.values r.annuity interest c.args.alive r.alive) in
+    meets-below c.total-total.result (numerator b (pay_of_task task) c.args.t (has_bit c.args.alive))
+        (denominator b c.args.t (has_bit c.args.alive)) c.least_worth.result
+        (some-denominator task group interest c.args.t c.args.alive r.alive) (held.encloses declared_order)
+        (value-below task r.task group r.annuity declared_order c.args.t r.time c.args.alive c.least_worth.result
+            c.least_worth.ensures.one)
+
+pub returns-clause-encloses : goal.returns-clause-encloses
+returns-clause-encloses g c =
+    let r = c.requires in
+    let task = c.args.task.now in
+    let group = c.start-start.ensures.group in
+    let held = same-annuity task c.args.t c.args.alive c.total-total.result (total_of c.args.work.now g.row.M c.args.alive)
+        c.total-total.ensures.lo c.total-total.ensures.hi
+        (held-annuity task r.task group c.args.t r.time c.args.work.now r.values r.annuity
+            c.fractions-fractions.ensures.interest c.args.alive r.alive) in
+    record {
+      encloses = λ ties.
+          c.between.ensures.encloses
+              (numerator (basis_of_task task ties) (pay_of_task task) c.args.t (has_bit c.args.alive))
+              (denominator (basis_of_task task ties) c.args.t (has_bit c.args.alive))
+              (value-above task r.task group r.annuity ties c.args.t r.time c.args.alive c.most_worth.result
+                  c.most_worth.ensures.value)
+              (value-below task r.task group r.annuity ties c.args.t r.time c.args.alive c.least_worth.result
+                  c.least_worth.ensures.one)
+              (held.encloses ties);
+      narrow = λ ties. c.between.ensures.narrow _ (held.narrow ties);
+    }
+
+pub returns-clause-within : goal.returns-clause-within
+returns-clause-within g c = λ ties.
+    let task = c.args.task.now in
+    let most : c.most_worth.result ≡ most_worth task.pay.now.kind (measures_of (basis_of_task task ties) (pay_of_task task)) =
+        c.most_worth.ensures.value ∙ sym (most-of-task task c.requires.task c.start-start.ensures.group c.requires.annuity ties) in
+    let high = ap (λ (n : ℕ). n * fine) most in
+    record {
+      low = omega (arith, ints, c.between.ensures.within.low);
+      high = omega (arith, ints, c.between.ensures.within.high, high);
+    }

@@ -1,0 +1,43 @@
+// The two parts of a coefficient, and what it is paid.
+ghost use Rattle.std.specs.Prelude.{◌≡◌, ◌*◌, ◌^◌, ◌≤◌, pos};
+ghost use Rattle.halo_num.specs.Ends.{IsSized, IsWithin, fine};
+ghost use Rattle.halo_model.specs.Backward.{above_zero, below_zero};
+
+use halo_num::{Ival, ONE_IN_FINE_UNITS};
+
+/// So many payments of so many ones, exactly.
+pub fn ones(paid: u16, times: u64) -> Ival
+    requires paid { paid ≤ 201 }
+    requires times { times ≤ 2 ^ 11 }
+    ensures lo { result.lo ≡ pos (paid * times * fine) }
+    ensures hi { result.hi ≡ pos (paid * times * fine) }
+    ensures within { IsWithin result (pos 0) (pos (10 ^ 24)) }
+{
+    Ival::exact(paid as i128 * times as i128 * ONE_IN_FINE_UNITS)
+}
+
+/// The part of a coefficient above 0.
+pub fn above_zero(coefficient: i64) -> u64
+    requires { IsSized coefficient (2 ^ 11) }
+    ensures value { result ≡ above_zero coefficient }
+    ensures small { result ≤ 2 ^ 11 }
+{
+    if coefficient > 0 {
+        coefficient as u64
+    } else {
+        0
+    }
+}
+
+/// The part of a coefficient below 0, without its sign.
+pub fn below_zero(coefficient: i64) -> u64
+    requires { IsSized coefficient (2 ^ 11) }
+    ensures value { result ≡ below_zero coefficient }
+    ensures small { result ≤ 2 ^ 11 }
+{
+    if coefficient < 0 {
+        -coefficient as u64
+    } else {
+        0
+    }
+}
