@@ -39,19 +39,19 @@ module _ {n m : ℕ} (task : Task n m) (is : IsTask task) (group : IsGroup n tas
         → numerator b (pay_of_task task) t (has_bit alive) ≤ most * denominator b t (has_bit alive)
     value-above most e = rw (e, ← most-of-task)
         (annuity-is-bounded b (group-lives n task.group.now group) (pay_of_task task) annual
-            (no-mark (pay_of task.pay.now) is.valid annual) refl is.valid.lists
-            (positive-ranks (pay_of task.pay.now) is.valid) t in_time (has_bit alive))
+        (no-mark (pay_of task.pay.now) is.valid annual) refl is.valid.lists
+        (positive-ranks (pay_of task.pay.now) is.valid) t in_time (has_bit alive))
 
     pub value-below : (least : ℕ) → ((least ≡ 1) × PaysAtOnce task t alive) ⊎ (least ≡ 0)
         → least * denominator b t (has_bit alive) ≤ numerator b (pay_of_task task) t (has_bit alive)
     value-below least either = ⊎_elim
         (λ (one : (least ≡ 1) × PaysAtOnce task t alive).
-            let now = one.1 in
-            let d = due-is-worth-one b (group-lives n task.group.now group) (pay_of_task task) now.due
-                    (no-mark (pay_of task.pay.now) is.valid annual) refl now.level now.at_once
-                    (λ i named. omega (arith, is.lives i named, count-lives task.group.now, group.count))
-                    t in_time (has_bit alive) now.exists_then in
-            rw one.0 (omega (arith, d)))
+        let now = one.1 in
+        let d = due-is-worth-one b (group-lives n task.group.now group) (pay_of_task task) now.due
+        (no-mark (pay_of task.pay.now) is.valid annual) refl now.level now.at_once
+        (λ i named. omega (arith, is.lives i named, count-lives task.group.now, group.count))
+        t in_time (has_bit alive) now.exists_then in
+        rw one.0 (omega (arith, d)))
         (λ (none : least ≡ 0). rw none (omega arith))
         either
 

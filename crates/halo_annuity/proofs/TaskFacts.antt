@@ -128,7 +128,7 @@ module _ {n m : ℕ} (task : Task n m) where
       → 0 < joint_survivors t (has_bit alive) (lives_of task.group.now.file task.group.now.lives)
   survivors-there group t alive there =
       some-survive task.group.now.file t (has_bit alive) task.group.now.lives
-          (λ i below. there i (omega (arith, below, group.count)))
+      (λ i below. there i (omega (arith, below, group.count)))
 
   -- 1 is worth something with the interest of the task
   pub interest-there : IsInterest task.interest.now → (t : ℕ)
@@ -143,5 +143,5 @@ pub pass-cost : (years horizon named sets : ℕ) → years ≤ horizon
 pass-cost years horizon named sets h =
     let year : (named + 3) * sets ≤ 8 * ((named + 1) * sets) = omega arith in
     let all : (named + 3) * sets * years ≤ 8 * ((named + 1) * sets) * (horizon + 1) =
-        mul-le ((named + 3) * sets) years (8 * ((named + 1) * sets)) (horizon + 1) year (omega arith) in
+    mul-le ((named + 3) * sets) years (8 * ((named + 1) * sets)) (horizon + 1) year (omega arith) in
     omega (arith, all)

@@ -36,15 +36,15 @@ module _ {n m : ℕ} (task : Task n m) (is : IsTask task) (group : IsGroup n tas
   pub held-modest : AreModest m lists
   held-modest = modest-same (2 ^ n) m lists lists is.sets refl refl
       (values-modest (basis_of_task task declared_order) (pay_of_task task) refl is.valid.vary t n group.few lists t
-          (suc (last_of_task task) - t)
-          (omega (arith, last-in task.pay.now.kind task.horizon, is.horizon_in, in_time)) (held declared_order))
+      (suc (last_of_task task) - t)
+      (omega (arith, last-in task.pay.now.kind task.horizon, is.horizon_in, in_time)) (held declared_order))
 
   -- and their total over the subsets of the living is the value of the annuity
   pub held-annuity : task.pay.now.kind ≢ Insurance → IsInterest task.interest.now
       → (alive : ℕ) → HaveSurvivorsAt task t alive → EnclosesAnnuity task t alive (total_of lists m alive)
   held-annuity annual interest alive there =
       subst (λ (k : ℕ). EnclosesAnnuity task t alive (total_of lists k alive)) (sym is.sets)
-          (record { encloses = encloses; narrow = narrow })
+      (record { encloses = encloses; narrow = narrow })
     where
       count : length (lives_of task.group.now.file task.group.now.lives) ≡ n
       count = count-lives task.group.now ∙ group.count
@@ -54,16 +54,16 @@ module _ {n m : ℕ} (task : Task n m) (is : IsTask task) (group : IsGroup n tas
 
       encloses : (ties : Ties) →
           Encloses (total_of lists (2 ^ n) alive) (pos (numerator (basis_of_task task ties) (pay_of_task task) t (has_bit alive)))
-              (denominator (basis_of_task task ties) t (has_bit alive))
+          (denominator (basis_of_task task ties) t (has_bit alive))
       encloses ties =
           total-encloses (basis_of_task task ties) (group-lives n task.group.now group) (pay_of_task task) annual
-              (no-mark (pay_of task.pay.now) is.valid annual) is.valid.lists (positive-ranks (pay_of task.pay.now) is.valid)
-              t n alive lists count in_time (rw is.horizon_is at last) (rw is.horizon_is at (held ties))
-              (survivors-there task group t alive there) (interest-there task interest t)
+          (no-mark (pay_of task.pay.now) is.valid annual) is.valid.lists (positive-ranks (pay_of task.pay.now) is.valid)
+          t n alive lists count in_time (rw is.horizon_is at last) (rw is.horizon_is at (held ties))
+          (survivors-there task group t alive there) (interest-there task interest t)
 
       narrow : (ties : Ties) →
           HasWidth (total_of lists (2 ^ n) alive) (width_count (measures_of (basis_of_task task ties) (pay_of_task task)))
       narrow ties =
           total-narrow (basis_of_task task ties) (pay_of_task task) annual refl (some-nodes (pay_of task.pay.now).body)
-              (some-years (lives_of task.group.now.file task.group.now.lives) (pay_of task.pay.now).body)
-              t n alive lists count group.few (rw is.horizon_is at (held ties))
+          (some-years (lives_of task.group.now.file task.group.now.lives) (pay_of task.pay.now).body)
+          t n alive lists count group.few (rw is.horizon_is at (held ties))

@@ -1,7 +1,7 @@
 -- The values of an annuity at a time that a pass back from the horizon comes by.
-use Rattle.std.specs.Prelude.{◌≡◌, ℕ, suc, ◌-◌, ◌*◌, ◌<◌, true, pos}
+use Rattle.std.specs.Prelude.{◌≡◌, ℕ, suc, ◌-◌, ◌<◌, true, pos}
 use Rattle.halo_sums.specs.Masks.{has_bit}
-use Rattle.halo_num.specs.Ends.{Ends, HasWidth, IsWithin, fine}
+use Rattle.halo_num.specs.Ends.{Ends}
 use Rattle.halo_num.specs.Enclosure.{Encloses}
 use Rattle.halo_status.specs.Exists.{exists}
 use Rattle.halo_status.specs.Pay.{pay_of}
@@ -9,12 +9,12 @@ use Rattle.halo_status.specs.View.{is_on}
 use Rattle.halo_status.specs.declared.pay.Kind.TheVariants.{Due}
 use Rattle.halo_status.specs.declared.pay.Vary.TheVariants.{Level}
 use Rattle.halo_status.specs.declared.view.View.TheVariants.{Due as DueView}
-use Rattle.halo_model.specs.Counts.{measures_of, most_worth, width_count}
 use Rattle.halo_model.specs.Order.{Ties}
 use Rattle.halo_model.specs.Value.{denominator, numerator}
 use Rattle.halo_life.specs.Lists.{Lists}
 use Rattle.halo_life.specs.PlainGroup.{survivors_of}
 use Rattle.halo_compile.specs.declared.task.Task.{Task}
+use Rattle.halo_annuity.specs.Bounds.{IsWithinCount}
 use Rattle.halo_annuity.specs.OfTask.{basis_of_task, last_of_task, pay_of_task}
 use Rattle.halo_annuity.specs.Worth.{HoldValues}
 
@@ -22,7 +22,8 @@ use Rattle.halo_annuity.specs.Worth.{HoldValues}
 -- group: an annuity-due from t on, an annuity-immediate after t
 abbrev pub HoldAt : {n m : ℕ} → Task n m → ℕ → Lists → Type 0
 HoldAt {n} task t lists = (ties : Ties) →
-    HoldValues (basis_of_task task ties) (pay_of_task task) t n t (suc (last_of_task task) - t) lists
+    let years = suc (last_of_task task) - t in
+    HoldValues (basis_of_task task ties) (pay_of_task task) t n t years lists
 
 -- the lives of a set that there are have survivors at time t: each has a row at its age then
 abbrev pub HaveSurvivorsAt : {n m : ℕ} → Task n m → ℕ → ℕ → Type 0
@@ -34,15 +35,9 @@ HaveSurvivorsAt {n} task t alive =
 pub record EnclosesAnnuity {n m : ℕ} (task : Task n m) (t alive : ℕ) (i : Ends) : Type 0 where
   pub encloses : (ties : Ties) →
       let b = basis_of_task task ties in
-      Encloses i (pos (numerator b (pay_of_task task) t (has_bit alive))) (denominator b t (has_bit alive))
-  pub narrow : (ties : Ties) →
-      HasWidth i (width_count (measures_of (basis_of_task task ties) (pay_of_task task)))
-
--- i lies from 0 to the most that the annuity of 1 can be worth
-abbrev pub IsWithinMost : {n m : ℕ} → Task n m → Ends → Type 0
-IsWithinMost task i = (ties : Ties) →
-    let measures = measures_of (basis_of_task task ties) (pay_of_task task) in
-    IsWithin i (pos 0) (pos (most_worth task.pay.now.kind measures * fine))
+      let living = has_bit alive in
+      Encloses i (pos (numerator b (pay_of_task task) t living)) (denominator b t living)
+  pub narrow : IsWithinCount task i
 
 -- an annuity-due, level and without deferral, pays at time t: its body exists then with the lives of
 -- a set alive

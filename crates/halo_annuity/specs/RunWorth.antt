@@ -10,9 +10,17 @@ use Rattle.halo_model.specs.Outcome.{joint_survivors}
 use Rattle.halo_model.specs.Order.{Ties}
 use Rattle.halo_model.specs.Segment.{Run}
 use Rattle.halo_model.specs.Backward.{paid_at}
+use Rattle.halo_model.specs.Premium.{all_lives}
+use Rattle.halo_model.specs.RunPart.{run_part}
+use Rattle.halo_model.specs.Value.{denominator}
+use Rattle.halo_compile.specs.Form.{run_of, segment_at}
 use Rattle.halo_compile.specs.declared.task.Task.{Task}
 use Rattle.halo_annuity.specs.OfTask.{basis_of_task, pay_of_task}
 use Rattle.halo_annuity.specs.Worth.{Carries, EnclosesSet}
+
+-- the run of the times from one to another
+abbrev pub run_from : ℕ → ℕ → Run
+run_from first last = record { first = first; last = last }
 
 -- so many times what an annuity valued at time 0 pays, at the times of a run, and nothing at others
 abbrev pub paid_in : PlainPay → Run → ℕ → ℕ → ℕ
@@ -25,12 +33,22 @@ EnclosesRun {n} task run times mask t years i = (ties : Ties) →
     let paid = paid_in (pay_of_task task) run times in
     EnclosesSet (basis_of_task task ties) n paid (bits n mask) t years i
 
--- i encloses the discount of year t times the chance of a set of n lives, all alive at t, to survive it
-pub record EnclosesDiscountedSurvival (b : Basis) (n : ℕ) (s : List Bool) (t : ℕ) (i : Ends) : Type 0 where
+-- i encloses what the coefficient of a set in the segment at a place adds to the value of the annuity
+-- of 1 at time 0 with all lives alive
+abbrev pub EnclosesPart : {n m : ℕ} → Task n m → ℕ → ℕ → Ends → Type 0
+EnclosesPart {n} task place mask i = (ties : Ties) →
+    let b = basis_of_task task ties in
+    let run = run_of (segment_at task.form.now place) in
+    Encloses i (run_part b (pay_of_task task) run (bits n mask)) (denominator b 0 all_lives)
+
+-- i encloses the discount of year t times the chance of a set of n lives, all alive at t, to survive
+-- it
+pub record EnclosesDiscountedSurvival (b : Basis) (n : ℕ) (s : List Bool) (t : ℕ) (i : Ends)
+    : Type 0 where
   pub encloses : 0 < joint_survivors t (in_set s) b.lives →
       Encloses i
-          (pos (b.q t * joint_survivors (suc t) (in_set s) b.lives))
-          ((b.p t + b.q t) * joint_survivors t (in_set s) b.lives)
+      (pos (b.q t * joint_survivors (suc t) (in_set s) b.lives))
+      ((b.p t + b.q t) * joint_survivors t (in_set s) b.lives)
   pub narrow : HasWidth i (2 * n + 2)
   pub within : IsWithin i (pos 0) (pos fine)
 
@@ -38,5 +56,6 @@ pub record EnclosesDiscountedSurvival (b : Basis) (n : ℕ) (s : List Bool) (t :
 -- of the set to survive it
 pub record CarriesYear {n m : ℕ} (task : Task n m) (t mask : ℕ) (later result : Ends) : Type 0 where
   pub chance : Ends
-  pub year : (ties : Ties) → EnclosesDiscountedSurvival (basis_of_task task ties) n (bits n mask) t chance
+  pub year : (ties : Ties) →
+      EnclosesDiscountedSurvival (basis_of_task task ties) n (bits n mask) t chance
   pub carries : Carries later chance result

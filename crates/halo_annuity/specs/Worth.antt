@@ -26,7 +26,8 @@ pub record Carries (later chance result : Ends) : Type 0 where
   pub from : pos 0 ≤ℤ result.lo
   pub bound : (a : ℕ) → later.hi ≤ℤ pos (a * fine) → result.hi ≤ℤ pos (a * fine)
   pub narrow : (a v w : ℕ) →
-      later.hi ≤ℤ pos (a * fine) → HasWidth later w → HasWidth chance v → HasWidth result (w + (v + 1) * a)
+      later.hi ≤ℤ pos (a * fine) → HasWidth later w → HasWidth chance v →
+      HasWidth result (w + (v + 1) * a)
 
 -- all that is paid in so many years from t on, without interest
 abbrev pub paid_in_all : (ℕ → ℕ) → ℕ → ℕ → ℕ
@@ -43,21 +44,21 @@ waited paid t (suc years) = 2 * paid_in_all paid (suc t) years + waited paid (su
 abbrev pub EnclosesSet : Basis → ℕ → (ℕ → ℕ) → List Bool → ℕ → ℕ → Ends → Type 0
 EnclosesSet b n paid s t years i =
     EnclosesSetWorth
-        (backward b s paid t years)
-        (joint_survivors t (in_set s) b.lives * accumulated b t)
-        (paid_in_all paid t years)
-        ((n + 2) * waited paid t years)
-        i
+    (backward b s paid t years)
+    (joint_survivors t (in_set s) b.lives * accumulated b t)
+    (paid_in_all paid t years)
+    ((n + 2) * waited paid t years)
+    i
 
 -- and the same at time t of what is paid from the next time on
 abbrev pub EnclosesCarried : Basis → ℕ → (ℕ → ℕ) → List Bool → ℕ → ℕ → Ends → Type 0
 EnclosesCarried b n paid s t years i =
     EnclosesSetWorth
-        (b.q t * backward b s paid (suc t) years)
-        (joint_survivors t (in_set s) b.lives * accumulated b t)
-        (paid_in_all paid (suc t) years)
-        ((n + 2) * (2 * paid_in_all paid (suc t) years + waited paid (suc t) years))
-        i
+    (b.q t * backward b s paid (suc t) years)
+    (joint_survivors t (in_set s) b.lives * accumulated b t)
+    (paid_in_all paid (suc t) years)
+    ((n + 2) * (2 * paid_in_all paid (suc t) years + waited paid (suc t) years))
+    i
 
 -- the entries of all sets of n lives: what an annuity valued at T pays in so many years from t on
 abbrev pub HoldValues : Basis → PlainPay → ℕ → ℕ → ℕ → ℕ → Lists → Type 0

@@ -4,7 +4,8 @@ ghost use Rattle.halo_num.specs.Ends.{fine};
 ghost use Rattle.halo_status.specs.declared.pay.Kind.TheVariants.{Insurance};
 ghost use Rattle.halo_life.specs.Total.{AreModest, total_of};
 ghost use Rattle.halo_compile.specs.ValidTask.{IsTask};
-ghost use Rattle.halo_annuity.specs.AtTime.{EnclosesAnnuity, HaveSurvivorsAt, HoldAt, IsWithinMost, PaysAtOnce};
+ghost use Rattle.halo_annuity.specs.AtTime.{EnclosesAnnuity, HaveSurvivorsAt, HoldAt, PaysAtOnce};
+ghost use Rattle.halo_annuity.specs.Bounds.{IsWithinMost};
 ghost use Rattle.halo_annuity.specs.OfTask.{products_of_pass};
 
 use crate::step::{at_horizon, year_back};
@@ -14,14 +15,14 @@ use halo_life::Work;
 use halo_num::{Ival, Steps};
 use std::sync::ledger::Ledger;
 
-/// The values of an annuity of 1 at the start of the task's group on every set of living lives, in one
-/// pass from the horizon back.
+/// The values of an annuity of 1 at the start of the task's group on every set of living lives, in
+/// one pass from the horizon back.
 ///
-/// Afterwards `work.total(alive)` encloses, for each set `alive` of lives that have a row at that time,
-/// the value of the annuity with just these lives alive, no wider than its count; `value_at` tells it
-/// within its bounds. The lives that the group says are alive are not looked at. With n lives named by
-/// the body and a horizon of H years the counter is raised by at most 8 (H + 1) (n + 1) 2^n, whatever
-/// the number of lives.
+/// Afterwards `work.total(alive)` encloses, for each set `alive` of lives that have a row at that
+/// time, the value of the annuity with just these lives alive, no wider than its count; `value_at`
+/// tells it within its bounds. The lives that the group says are alive are not looked at. With n
+/// lives named by the body and a horizon of H years the counter is raised by at most
+/// 8 (H + 1) (n + 1) 2^n, whatever the number of lives.
 pub fn annuity_all<const N: usize, const M: usize, L: Ledger>(
     task: &Task<N, M>,
     work: &mut Work<M>,
@@ -30,8 +31,9 @@ pub fn annuity_all<const N: usize, const M: usize, L: Ledger>(
     requires task { IsTask task.now }
     requires annuity { task.now.pay.now.kind ≢ Insurance }
     ensures values { HoldAt task.now task.now.group.now.start work.new }
-    ensures totals { let start = task.now.group.now.start in (alive : ℕ) →
-        HaveSurvivorsAt task.now start alive → EnclosesAnnuity task.now start alive (total_of work.new M alive) }
+    ensures totals { let start = task.now.group.now.start in
+        (alive : ℕ) → HaveSurvivorsAt task.now start alive →
+        EnclosesAnnuity task.now start alive (total_of work.new M alive) }
     ensures modest { AreModest M work.new }
     ensures few { M ≤ 4096 }
     ensures cost { steps.new ≤ steps.old + products_of_pass task.now }
@@ -57,7 +59,8 @@ pub fn annuity<const N: usize, const M: usize, L: Ledger>(
 ) -> Ival
     requires task { IsTask task.now }
     requires annuity { task.now.pay.now.kind ≢ Insurance }
-    ensures encloses { let group = task.now.group.now in EnclosesAnnuity task.now group.start group.alive result }
+    ensures encloses { let group = task.now.group.now in
+        EnclosesAnnuity task.now group.start group.alive result }
     ensures within { IsWithinMost task.now result }
     ensures one { let group = task.now.group.now in
         PaysAtOnce task.now group.start group.alive → pos fine ≤ℤ result.lo }

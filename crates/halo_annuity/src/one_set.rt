@@ -12,6 +12,7 @@ ghost use Rattle.halo_annuity.specs.OfTask.{basis_of_task};
 ghost use Rattle.halo_annuity.specs.RunWorth.{EnclosesDiscountedSurvival};
 
 use halo_compile::Task;
+use halo_interest::LAST_TIME;
 use halo_life::Group;
 use halo_num::{Ival, ONE_IN_FINE_UNITS, Steps};
 use std::sync::ledger::Ledger;
@@ -25,8 +26,9 @@ pub fn year<const N: usize, const M: usize, L: Ledger>(
     steps: &mut Steps<L>,
 ) -> Ival
     requires task { IsTask task.now }
-    requires time { t < 200 }
-    ensures year { (ties : Ties) → EnclosesDiscountedSurvival (basis_of_task task.now ties) N (bits N set) t result }
+    requires time { t < LAST_TIME }
+    ensures year { (ties : Ties) →
+        EnclosesDiscountedSurvival (basis_of_task task.now ties) N (bits N set) t result }
     ensures within { IsWithin result (pos 0) (pos fine) }
     ensures cost { steps.new ≤ steps.old + size_of (bits N set) + 1 }
 {
@@ -43,8 +45,12 @@ fn all_survive<const N: usize, L: Ledger>(
     steps: &mut Steps<L>,
 ) -> Ival
     requires from { group.now.start ≤ t }
-    requires time { t ≤ 200 }
-    ensures chance { EnclosesChance (product_in (surviving group.now t) (bits N set)) (product_in (started group.now) (bits N set)) (2 * size_of (bits N set)) result }
+    requires time { t ≤ LAST_TIME }
+    ensures chance { EnclosesChance
+        (product_in (surviving group.now t) (bits N set))
+        (product_in (started group.now) (bits N set))
+        (2 * size_of (bits N set))
+        result }
     ensures cost { steps.new ≤ steps.old + size_of (bits N set) }
 {
     let _start = group.start();
@@ -67,10 +73,14 @@ fn with_life<const N: usize, L: Ledger>(
     requires life { i < N }
     requires few { i < 16 }
     requires from { group.now.start ≤ t }
-    requires time { t ≤ 200 }
+    requires time { t ≤ LAST_TIME }
     requires chance { IsWithin chance (pos 0) (pos fine) }
     ensures chance { (n d v : ℕ) → EnclosesChance n d v chance →
-        EnclosesChance (n * cond (has_bit set i) (surviving group.now t i) 1) (d * cond (has_bit set i) (started group.now i) 1) (v + 2 * cond (has_bit set i) 1 0) result }
+        EnclosesChance
+        (n * cond (has_bit set i) (surviving group.now t i) 1)
+        (d * cond (has_bit set i) (started group.now i) 1)
+        (v + 2 * cond (has_bit set i) 1 0)
+        result }
     ensures cost { steps.new ≤ steps.old + cond (has_bit set i) 1 0 }
 {
     if has_bit(set, i) {

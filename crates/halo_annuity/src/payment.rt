@@ -6,15 +6,19 @@ ghost use Rattle.halo_model.specs.Payment.{factor};
 ghost use Rattle.halo_model.specs.Backward.{may_pay, paid_at, years_passed};
 ghost use Rattle.halo_model.specs.Enclosed.{of_one};
 
+use halo_interest::LAST_TIME;
 use halo_status::{Kind, Pay, Vary};
+
+/// The most that an annuity of 1 pays at once: a factor is at most 201.
+pub const MOST_PAID: u16 = 201;
 
 /// What the annuity pays at time `t` of a valuation at `start` for each 1 of its amount: its factor
 /// then, or 0 where it may not pay.
 pub fn paid_at(pay: &Pay, start: u16, t: u16) -> u16
-    requires time { t ≤ 200 }
+    requires time { t ≤ LAST_TIME }
     requires vary { HasValidVary pay.now.vary }
     ensures value { result ≡ paid_at (of_one (pay_of pay.now)) start t }
-    ensures small { result ≤ 201 }
+    ensures small { result ≤ MOST_PAID }
 {
     if !may_pay(pay.kind, pay.defer, start, t) {
         return 0;
@@ -48,10 +52,10 @@ fn years_passed(kind: Kind, defer: u16, t: u16) -> u16
 
 // The factor after so many years.
 fn factor(vary: Vary, passed: u16) -> u16
-    requires time { passed ≤ 200 }
+    requires time { passed ≤ LAST_TIME }
     requires vary { HasValidVary vary }
     ensures value { result ≡ factor vary passed }
-    ensures small { result ≤ 201 }
+    ensures small { result ≤ MOST_PAID }
 {
     match vary {
         Vary::Level => 1,

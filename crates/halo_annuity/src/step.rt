@@ -17,7 +17,8 @@ use halo_num::Steps;
 use halo_status::Kind;
 use std::sync::ledger::Ledger;
 
-/// The values of all sets at the horizon of the task, and at any later time: nothing is left to be paid.
+/// The values of all sets at the horizon of the task, and at any later time: nothing is left to be
+/// paid.
 pub fn at_horizon<const N: usize, const M: usize>(task: &Task<N, M>, work: &mut Work<M>)
     requires task { IsTask task.now }
     requires annuity { task.now.pay.now.kind ≢ Insurance }
@@ -28,8 +29,7 @@ pub fn at_horizon<const N: usize, const M: usize>(task: &Task<N, M>, work: &mut 
 }
 
 /// The values of all sets at time `t`, by those at time t + 1. They do not depend on the time of the
-/// task's group. With n lives named by the body the counter is raised by at
-/// most (n + 3) 2^n.
+/// task's group. With n lives named by the body the counter is raised by at most (n + 3) 2^n.
 pub fn year_back<const N: usize, const M: usize, L: Ledger>(
     task: &Task<N, M>,
     t: u16,
@@ -49,8 +49,8 @@ pub fn year_back<const N: usize, const M: usize, L: Ledger>(
     }
 }
 
-// A year back of an annuity-due: what is paid at time t + 1 and later is carried back, and what is paid
-// at time `t` is added.
+// A year back of an annuity-due: what is paid at time t + 1 and later is carried back, and what is
+// paid at time `t` is added.
 fn year_back_due<const N: usize, const M: usize, L: Ledger>(
     task: &Task<N, M>,
     t: u16,
@@ -69,8 +69,8 @@ fn year_back_due<const N: usize, const M: usize, L: Ledger>(
     pay(task, t, t, work);
 }
 
-// A year back of an annuity-immediate: what is paid at time t + 1 is added, which does not count at that
-// time itself, and all is carried back.
+// A year back of an annuity-immediate: what is paid at time t + 1 is added, which does not count at
+// that time itself, and all is carried back.
 fn year_back_immediate<const N: usize, const M: usize, L: Ledger>(
     task: &Task<N, M>,
     t: u16,
@@ -94,8 +94,10 @@ fn pay<const N: usize, const M: usize>(task: &Task<N, M>, start: u16, t: u16, wo
     requires task { IsTask task.now }
     requires to { t ≤ last_of_task task.now }
     requires modest { AreModest M work.old }
-    ensures paid { (ties : Ties) (years : ℕ) → HoldCarried (basis_of_task task.now ties) (pay_of_task task.now) start N t years work.old
-        → HoldValues (basis_of_task task.now ties) (pay_of_task task.now) start N t (suc years) work.new }
+    ensures paid { (ties : Ties) (years : ℕ) →
+        let b = basis_of_task task.now ties in
+        let pay = pay_of_task task.now in
+        HoldCarried b pay start N t years work.old → HoldValues b pay start N t (suc years) work.new }
 {
     let _start = task.group.start();
     let paid = paid_at(task.pay, start, t);

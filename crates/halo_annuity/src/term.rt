@@ -1,33 +1,26 @@
 // The parts of an annuity: what one coefficient of one segment is worth.
-ghost use Rattle.std.specs.Prelude.{◌≡◌, ◌≢◌, suc, ◌+◌, ◌-◌, ◌*◌, ◌^◌, ◌<◌, ◌≤◌, length, pos, neg_ℤ};
-ghost use Rattle.halo_sums.specs.Masks.{bits};
-ghost use Rattle.halo_num.specs.Ends.{HasWidth, IsWithin, fine};
-ghost use Rattle.halo_num.specs.Enclosure.{Encloses};
+ghost use Rattle.std.specs.Prelude.{◌≡◌, ◌≢◌, suc, ◌+◌, ◌-◌, ◌*◌, ◌<◌, ◌≤◌, length};
 ghost use Rattle.halo_status.specs.declared.pay.Kind.TheVariants.{Insurance};
 ghost use Rattle.halo_status.specs.Pay.{pay_of};
-ghost use Rattle.halo_model.specs.Counts.{measures_of, most_worth, width_count};
-ghost use Rattle.halo_model.specs.Order.{Ties};
-ghost use Rattle.halo_model.specs.Premium.{all_lives};
-ghost use Rattle.halo_model.specs.RunPart.{run_part};
-ghost use Rattle.halo_model.specs.Value.{denominator};
-ghost use Rattle.halo_compile.specs.Form.{IsInForm, run_of, segment_at};
+ghost use Rattle.halo_compile.specs.Form.{IsInForm, segment_at};
 ghost use Rattle.halo_compile.specs.ValidTask.{IsTask};
-ghost use Rattle.halo_annuity.specs.OfTask.{basis_of_task, pay_of_task};
-ghost use Rattle.halo_annuity.specs.RunWorth.{EnclosesRun};
+ghost use Rattle.halo_annuity.specs.Bounds.{IsWithinCount, IsWithinWeightedMost};
+ghost use Rattle.halo_annuity.specs.RunWorth.{EnclosesPart, EnclosesRun, run_from};
 
 use crate::carry::carried;
-use crate::coefficient::{above_zero, below_zero, ones};
+use crate::coefficient::{GREATEST_COEFFICIENT, above_zero, below_zero, ones};
 use crate::one_set::year;
 use crate::payment::paid_at;
 use halo_compile::{Form, Segment, Task};
 use halo_num::{Ival, Steps};
 use std::sync::ledger::Ledger;
 
-/// What the coefficient of a set of lives in one segment of the form adds to the value of an annuity of
-/// 1 at time 0 with all lives alive, whatever the time of the task's group and the lives alive then.
+/// What the coefficient of a set of lives in one segment of the form adds to the value of an annuity
+/// of 1 at time 0 with all lives alive, whatever the time of the task's group and the lives alive
+/// then.
 ///
-/// It is no wider than the count of the annuity, and in size at most the weight of the form times the
-/// most that the annuity can be worth; it may be below 0. The counter is raised by at most
+/// It is no wider than the count of the annuity, and in size at most the weight of the form times
+/// the most that the annuity can be worth; it may be below 0. The counter is raised by at most
 /// (N + 2) H for a horizon of H years.
 pub fn term_value<const N: usize, const M: usize, L: Ledger>(
     task: &Task<N, M>,
@@ -39,14 +32,9 @@ pub fn term_value<const N: usize, const M: usize, L: Ledger>(
     requires annuity { task.now.pay.now.kind ≢ Insurance }
     requires segment { segment < length task.now.form.now }
     requires set { set < M }
-    ensures encloses { (ties : Ties) → Encloses result
-        (run_part (basis_of_task task.now ties) (pay_of_task task.now) (run_of (segment_at task.now.form.now segment)) (bits N set))
-        (denominator (basis_of_task task.now ties) 0 all_lives) }
-    ensures narrow { (ties : Ties) → HasWidth result (width_count (measures_of (basis_of_task task.now ties) (pay_of_task task.now))) }
-    ensures sized { (ties : Ties) →
-        let measures = measures_of (basis_of_task task.now ties) (pay_of_task task.now) in
-        let most = measures.weight * most_worth task.now.pay.now.kind measures * fine in
-        IsWithin result (neg_ℤ (pos most)) (pos most) }
+    ensures encloses { EnclosesPart task.now segment set result }
+    ensures narrow { IsWithinCount task.now result }
+    ensures sized { IsWithinWeightedMost task.now result }
     ensures cost { steps.new ≤ steps.old + (N + 2) * task.now.horizon }
 {
     // The proof sees here that each year has a fraction, and that the lives have rows.
@@ -83,9 +71,9 @@ fn paid_in_run<const N: usize, const M: usize, L: Ledger>(
     steps: &mut Steps<L>,
 ) -> Ival
     requires task { IsTask task.now }
-    requires run { IsInForm (pay_of task.now.pay.now) task.now.horizon (record { first = from; last = to }) }
-    requires times { times ≤ 2 ^ 11 }
-    ensures worth { EnclosesRun task.now (record { first = from; last = to }) times set 0 (suc to) result }
+    requires run { IsInForm (pay_of task.now.pay.now) task.now.horizon (run_from from to) }
+    requires times { times ≤ GREATEST_COEFFICIENT }
+    ensures worth { EnclosesRun task.now (run_from from to) times set 0 (suc to) result }
     ensures cost { steps.new ≤ steps.old + (N + 2) * to }
 {
     let mut value = ones(paid_at(task.pay, 0, to), times);
@@ -107,11 +95,11 @@ fn paid_from<const N: usize, const M: usize, L: Ledger>(
     steps: &mut Steps<L>,
 ) -> Ival
     requires task { IsTask task.now }
-    requires run { IsInForm (pay_of task.now.pay.now) task.now.horizon (record { first = from; last = to }) }
-    requires times { times ≤ 2 ^ 11 }
+    requires run { IsInForm (pay_of task.now.pay.now) task.now.horizon (run_from from to) }
+    requires times { times ≤ GREATEST_COEFFICIENT }
     requires time { t < to }
-    requires later { EnclosesRun task.now (record { first = from; last = to }) times set (suc t) (to - t) later }
-    ensures worth { EnclosesRun task.now (record { first = from; last = to }) times set t (suc (to - t)) result }
+    requires later { EnclosesRun task.now (run_from from to) times set (suc t) (to - t) later }
+    ensures worth { EnclosesRun task.now (run_from from to) times set t (suc (to - t)) result }
     ensures cost { steps.new ≤ steps.old + N + 2 }
 {
     let _start = task.group.start();

@@ -6,16 +6,18 @@ ghost use Rattle.halo_status.specs.ValidPay.{HasValidVary};
 ghost use Rattle.halo_status.specs.declared.pay.Kind.TheVariants.{Insurance};
 ghost use Rattle.halo_model.specs.Counts.{greatest_factor};
 ghost use Rattle.halo_compile.specs.ValidTask.{IsTask};
-ghost use Rattle.halo_annuity.specs.AtTime.{EnclosesAnnuity, HaveSurvivorsAt, HoldAt, IsWithinMost, PaysAtOnce};
+ghost use Rattle.halo_annuity.specs.AtTime.{EnclosesAnnuity, HaveSurvivorsAt, HoldAt, PaysAtOnce};
+ghost use Rattle.halo_annuity.specs.Bounds.{IsWithinMost};
 
+use crate::payment::MOST_PAID;
 use halo_compile::Task;
 use halo_interest::LAST_TIME;
 use halo_life::Work;
 use halo_num::{Ival, ONE_IN_FINE_UNITS};
 use halo_status::{Kind, Vary, View};
 
-/// The value at time `t` of an annuity of 1 with the lives of a set alive, each of which has a row at its
-/// age then: of the payments from `t` on, or after `t` where it is immediate.
+/// The value at time `t` of an annuity of 1 with the lives of a set alive, each of which has a row at
+/// its age then: of the payments from `t` on, or after `t` where it is immediate.
 ///
 /// It is no wider than its count, and from 0 to the most that the annuity can be worth. Where an
 /// annuity-due, level and without deferral, pays at `t`, it is at least 1.
@@ -86,7 +88,8 @@ fn pays_at_once<const N: usize, const M: usize>(task: &Task<N, M>, t: u16, alive
 fn most_worth<const N: usize, const M: usize>(task: &Task<N, M>) -> u64
     requires vary { HasValidVary task.now.pay.now.vary }
     requires few { task.now.horizon ≤ LAST_TIME }
-    ensures value { result ≡ greatest_factor task.now.pay.now.vary task.now.horizon * (task.now.horizon + 1) }
+    ensures value { let horizon = task.now.horizon in
+        result ≡ greatest_factor task.now.pay.now.vary horizon * (horizon + 1) }
     ensures small { result ≤ 10 ^ 6 }
 {
     greatest_factor(task.pay.vary, task.horizon) as u64 * (task.horizon as u64 + 1)
@@ -97,7 +100,7 @@ fn greatest_factor(vary: Vary, horizon: u16) -> u16
     requires vary { HasValidVary vary }
     requires few { horizon ≤ LAST_TIME }
     ensures value { result ≡ greatest_factor vary horizon }
-    ensures small { result ≤ 201 }
+    ensures small { result ≤ MOST_PAID }
 {
     match vary {
         Vary::Level => 1,

@@ -9,23 +9,37 @@ value_at-requires g c =
     let task = c.args.task.now in
     let start = c.start.ensures.value in
     let there : HaveSurvivorsAt task task.group.now.start c.alive.result = λ i below alive.
-        living-survive g.row.N task.group.now c.alive.ensures.group i below
-            (subst (λ (mask : ℕ). has_bit mask i ≡ true) c.alive.ensures.value alive) in
-    (lit< tt, (lit< tt, (c.requires.task, (c.requires.annuity, (
-      omega (arith, start, c.start.ensures.group.time), (
-        subst (λ (t : ℕ). HoldAt task t c.annuity_all.new.work) (sym start) c.annuity_all.ensures.values,
-        subst (λ (t : ℕ). HaveSurvivorsAt task t c.alive.result) (sym start) there))))))
+    living-survive g.row.N task.group.now c.alive.ensures.group i below
+    (subst (λ (mask : ℕ). has_bit mask i ≡ true) c.alive.ensures.value alive) in (
+      lit< tt,
+      (
+        lit< tt,
+        (
+          c.requires.task,
+          (
+            c.requires.annuity,
+            (
+              omega (arith, start, c.start.ensures.group.time),
+              (
+                subst (λ (t : ℕ). HoldAt task t c.annuity_all.new.work) (sym start) c.annuity_all.ensures.values,
+                subst (λ (t : ℕ). HaveSurvivorsAt task t c.alive.result) (sym start) there,
+              ),
+            ),
+          ),
+        ),
+      ),
+    )
 
 pub returns-clause-encloses : goal.returns-clause-encloses
 returns-clause-encloses g c =
     let task = c.args.task.now in
     subst (λ (t : ℕ). EnclosesAnnuity task t task.group.now.alive c.value_at.result) c.start.ensures.value
-        (subst (λ (alive : ℕ). EnclosesAnnuity task c.start.result alive c.value_at.result) c.alive.ensures.value
-            c.value_at.ensures.encloses)
+    (subst (λ (alive : ℕ). EnclosesAnnuity task c.start.result alive c.value_at.result) c.alive.ensures.value
+    c.value_at.ensures.encloses)
 
 pub returns-clause-one : goal.returns-clause-one
 returns-clause-one g c = λ at_once.
     let task = c.args.task.now in
     c.value_at.ensures.one
-        (subst (λ (t : ℕ). PaysAtOnce task t c.alive.result) (sym c.start.ensures.value)
-            (subst (λ (alive : ℕ). PaysAtOnce task task.group.now.start alive) (sym c.alive.ensures.value) at_once))
+    (subst (λ (t : ℕ). PaysAtOnce task t c.alive.result) (sym c.start.ensures.value)
+    (subst (λ (alive : ℕ). PaysAtOnce task task.group.now.start alive) (sym c.alive.ensures.value) at_once))

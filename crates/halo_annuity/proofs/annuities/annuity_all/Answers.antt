@@ -17,10 +17,22 @@ year_back-requires g c =
     let start : ℕ = c.start-start.result in
     let years : ℕ = c.saturating_sub-years.result in
     let before : back + 1 ≤ years = omega arith in
-    let next : start + (years - back) ≡ suc (start + (years - back - 1)) = omega arith in
-    (lit< tt, (lit< tt, (c.requires.task, (c.requires.annuity, (
-      omega (arith, c.saturating_sub-years.ensures),
-      subst (λ (t : ℕ). HoldAt c.args.task.now t c.loop-back.work) next c.loop-back.invariant.values)))))
+    let next : start + (years - back) ≡ suc (start + (years - back - 1)) = omega arith in (
+      lit< tt,
+      (
+        lit< tt,
+        (
+          c.requires.task,
+          (
+            c.requires.annuity,
+            (
+              omega (arith, c.saturating_sub-years.ensures),
+              subst (λ (t : ℕ). HoldAt c.args.task.now t c.loop-back.work) next c.loop-back.invariant.values,
+            ),
+          ),
+        ),
+      ),
+    )
 
 pub loop-back-preserved : goal.loop-back-preserved
 loop-back-preserved g c =
@@ -37,25 +49,25 @@ loop-back-preserved g c =
 pub returns-clause-values : goal.returns-clause-values
 returns-clause-values g c =
     let there : c.start-start.result + (c.saturating_sub-years.result - c.loop-back.back) ≡ c.args.task.now.group.now.start =
-        omega (arith, c.loop-back-test.false, c.start-start.ensures.value) in
+    omega (arith, c.loop-back-test.false, c.start-start.ensures.value) in
     subst (λ (t : ℕ). HoldAt c.args.task.now t c.loop-back.work) there c.loop-back.invariant.values
 
 pub returns-clause-totals : goal.returns-clause-totals
 returns-clause-totals g c = λ alive there.
     let group = c.start-start.ensures.group in
     let at : c.start-start.result + (c.saturating_sub-years.result - c.loop-back.back) ≡ c.args.task.now.group.now.start =
-        omega (arith, c.loop-back-test.false, c.start-start.ensures.value) in
+    omega (arith, c.loop-back-test.false, c.start-start.ensures.value) in
     held-annuity c.args.task.now c.requires.task group c.args.task.now.group.now.start group.time c.loop-back.work
-        (subst (λ (t : ℕ). HoldAt c.args.task.now t c.loop-back.work) at c.loop-back.invariant.values)
-        c.requires.annuity c.fractions-fractions.ensures.interest alive there
+    (subst (λ (t : ℕ). HoldAt c.args.task.now t c.loop-back.work) at c.loop-back.invariant.values)
+    c.requires.annuity c.fractions-fractions.ensures.interest alive there
 
 pub returns-clause-modest : goal.returns-clause-modest
 returns-clause-modest g c =
     let group = c.start-start.ensures.group in
     let at : c.start-start.result + (c.saturating_sub-years.result - c.loop-back.back) ≡ c.args.task.now.group.now.start =
-        omega (arith, c.loop-back-test.false, c.start-start.ensures.value) in
+    omega (arith, c.loop-back-test.false, c.start-start.ensures.value) in
     held-modest c.args.task.now c.requires.task group c.args.task.now.group.now.start group.time c.loop-back.work
-        (subst (λ (t : ℕ). HoldAt c.args.task.now t c.loop-back.work) at c.loop-back.invariant.values)
+    (subst (λ (t : ℕ). HoldAt c.args.task.now t c.loop-back.work) at c.loop-back.invariant.values)
 
 pub returns-clause-few : goal.returns-clause-few
 returns-clause-few g c = few-sets g.row.N g.row.M c.requires.task.sets c.start-start.ensures.group.few

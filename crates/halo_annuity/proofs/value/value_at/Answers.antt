@@ -15,9 +15,13 @@ use Rattle.halo_annuity.proofs.value.value_at.Goals as goal
 
 pub total-total-requires : goal.total-total-requires
 total-total-requires g c =
-    let r = c.requires in
-    (lit< tt, (few-sets g.row.N g.row.M r.task.sets c.start-start.ensures.group.few,
-        held-modest c.args.task.now r.task c.start-start.ensures.group c.args.t r.time c.args.work.now r.values))
+    let r = c.requires in (
+      lit< tt,
+      (
+        few-sets g.row.N g.row.M r.task.sets c.start-start.ensures.group.few,
+        held-modest c.args.task.now r.task c.start-start.ensures.group c.args.t r.time c.args.work.now r.values,
+      ),
+    )
 
 pub between-requires-clause-meets_most : goal.between-requires-clause-meets_most
 between-requires-clause-meets_most g c =
@@ -27,13 +31,13 @@ between-requires-clause-meets_most g c =
     let interest = c.fractions-fractions.ensures.interest in
     let b = basis_of_task task declared_order in
     let held = same-annuity task c.args.t c.args.alive c.total-total.result (total_of c.args.work.now g.row.M c.args.alive)
-        c.total-total.ensures.lo c.total-total.ensures.hi
-        (held-annuity task r.task group c.args.t r.time c.args.work.now r.values r.annuity interest c.args.alive r.alive) in
+    c.total-total.ensures.lo c.total-total.ensures.hi
+    (held-annuity task r.task group c.args.t r.time c.args.work.now r.values r.annuity interest c.args.alive r.alive) in
     meets-above c.total-total.result (numerator b (pay_of_task task) c.args.t (has_bit c.args.alive))
-        (denominator b c.args.t (has_bit c.args.alive)) c.most_worth.result
-        (some-denominator task group interest c.args.t c.args.alive r.alive) (held.encloses declared_order)
-        (value-above task r.task group r.annuity declared_order c.args.t r.time c.args.alive c.most_worth.result
-            c.most_worth.ensures.value)
+    (denominator b c.args.t (has_bit c.args.alive)) c.most_worth.result
+    (some-denominator task group interest c.args.t c.args.alive r.alive) (held.encloses declared_order)
+    (value-above task r.task group r.annuity declared_order c.args.t r.time c.args.alive c.most_worth.result
+    c.most_worth.ensures.value)
 
 pub between-requires-clause-meets_least : goal.between-requires-clause-meets_least
 between-requires-clause-meets_least g c =
@@ -43,13 +47,13 @@ between-requires-clause-meets_least g c =
     let interest = c.fractions-fractions.ensures.interest in
     let b = basis_of_task task declared_order in
     let held = same-annuity task c.args.t c.args.alive c.total-total.result (total_of c.args.work.now g.row.M c.args.alive)
-        c.total-total.ensures.lo c.total-total.ensures.hi
-        (held-annuity task r.task group c.args.t r.time c.args.work.now r.values r.annuity interest c.args.alive r.alive) in
+    c.total-total.ensures.lo c.total-total.ensures.hi
+    (held-annuity task r.task group c.args.t r.time c.args.work.now r.values r.annuity interest c.args.alive r.alive) in
     meets-below c.total-total.result (numerator b (pay_of_task task) c.args.t (has_bit c.args.alive))
-        (denominator b c.args.t (has_bit c.args.alive)) c.least_worth.result
-        (some-denominator task group interest c.args.t c.args.alive r.alive) (held.encloses declared_order)
-        (value-below task r.task group r.annuity declared_order c.args.t r.time c.args.alive c.least_worth.result
-            c.least_worth.ensures.one)
+    (denominator b c.args.t (has_bit c.args.alive)) c.least_worth.result
+    (some-denominator task group interest c.args.t c.args.alive r.alive) (held.encloses declared_order)
+    (value-below task r.task group r.annuity declared_order c.args.t r.time c.args.alive c.least_worth.result
+    c.least_worth.ensures.one)
 
 pub returns-clause-encloses : goal.returns-clause-encloses
 returns-clause-encloses g c =
@@ -57,19 +61,19 @@ returns-clause-encloses g c =
     let task = c.args.task.now in
     let group = c.start-start.ensures.group in
     let held = same-annuity task c.args.t c.args.alive c.total-total.result (total_of c.args.work.now g.row.M c.args.alive)
-        c.total-total.ensures.lo c.total-total.ensures.hi
-        (held-annuity task r.task group c.args.t r.time c.args.work.now r.values r.annuity
-            c.fractions-fractions.ensures.interest c.args.alive r.alive) in
+    c.total-total.ensures.lo c.total-total.ensures.hi
+    (held-annuity task r.task group c.args.t r.time c.args.work.now r.values r.annuity
+    c.fractions-fractions.ensures.interest c.args.alive r.alive) in
     record {
       encloses = λ ties.
           c.between.ensures.encloses
-              (numerator (basis_of_task task ties) (pay_of_task task) c.args.t (has_bit c.args.alive))
-              (denominator (basis_of_task task ties) c.args.t (has_bit c.args.alive))
-              (value-above task r.task group r.annuity ties c.args.t r.time c.args.alive c.most_worth.result
-                  c.most_worth.ensures.value)
-              (value-below task r.task group r.annuity ties c.args.t r.time c.args.alive c.least_worth.result
-                  c.least_worth.ensures.one)
-              (held.encloses ties);
+          (numerator (basis_of_task task ties) (pay_of_task task) c.args.t (has_bit c.args.alive))
+          (denominator (basis_of_task task ties) c.args.t (has_bit c.args.alive))
+          (value-above task r.task group r.annuity ties c.args.t r.time c.args.alive c.most_worth.result
+          c.most_worth.ensures.value)
+          (value-below task r.task group r.annuity ties c.args.t r.time c.args.alive c.least_worth.result
+          c.least_worth.ensures.one)
+          (held.encloses ties);
       narrow = λ ties. c.between.ensures.narrow _ (held.narrow ties);
     }
 
@@ -77,7 +81,7 @@ pub returns-clause-within : goal.returns-clause-within
 returns-clause-within g c = λ ties.
     let task = c.args.task.now in
     let most : c.most_worth.result ≡ most_worth task.pay.now.kind (measures_of (basis_of_task task ties) (pay_of_task task)) =
-        c.most_worth.ensures.value ∙ sym (most-of-task task c.requires.task c.start-start.ensures.group c.requires.annuity ties) in
+    c.most_worth.ensures.value ∙ sym (most-of-task task c.requires.task c.start-start.ensures.group c.requires.annuity ties) in
     let high = ap (λ (n : ℕ). n * fine) most in
     record {
       low = omega (arith, ints, c.between.ensures.within.low);
