@@ -15,12 +15,17 @@ pub ones-below : (num den least : ℕ) → least * den ≤ num → (pos (least *
 ones-below num den least h = let m : least * den * fine ≤ num * fine = mul-le-mul_right fine h in omega (arith, ints, m)
 
 -- its enclosure meets the bounds
-pub meets-above : (i : Ends) (num den most : ℕ) → 0 < den → Encloses i (pos num) den → num ≤ most * den → i.lo ≤ℤ pos (most * fine)
-meets-above i num den most some e h = le_of_mul_pos i.lo (pos (most * fine)) den some (le_trans (i.lo *ℤ pos den) (pos num *ℤ pos fine) (pos (most * fine) *ℤ pos den) e.low (ones-above num den most h))
+pub meets-above : (i : Ends) (num den most : ℕ)
+    → 0 < den → Encloses i (pos num) den → num ≤ most * den → i.lo ≤ℤ pos (most * fine)
+meets-above i num den most some e h = le_of_mul_pos i.lo (pos (most * fine)) den some
+    (le_trans (i.lo *ℤ pos den) (pos num *ℤ pos fine) (pos (most * fine) *ℤ pos den) e.low (ones-above num den most h))
 
-pub meets-below : (i : Ends) (num den least : ℕ) → 0 < den → Encloses i (pos num) den → least * den ≤ num → pos (least * fine) ≤ℤ i.hi
-meets-below i num den least some e h = le_of_mul_pos (pos (least * fine)) i.hi den some (le_trans (pos (least * fine) *ℤ pos den) (pos num *ℤ pos fine) (i.hi *ℤ pos den) (ones-below num den least h) e.high)
+pub meets-below : (i : Ends) (num den least : ℕ)
+    → 0 < den → Encloses i (pos num) den → least * den ≤ num → pos (least * fine) ≤ℤ i.hi
+meets-below i num den least some e h = le_of_mul_pos (pos (least * fine)) i.hi den some (le_trans
+    (pos (least * fine) *ℤ pos den) (pos num *ℤ pos fine) (i.hi *ℤ pos den) (ones-below num den least h) e.high)
 
 -- and is no wider within them
-pub clamped-narrow : (i r : Ends) (low high : ℤ) (w : ℕ) → r.lo ≡ int_max i.lo low → r.hi ≡ int_min i.hi high → HasWidth i w → HasWidth r w
+pub clamped-narrow : (i r : Ends) (low high : ℤ) (w : ℕ)
+    → r.lo ≡ int_max i.lo low → r.hi ≡ int_min i.hi high → HasWidth i w → HasWidth r w
 clamped-narrow i r low high w lo hi h = record { near = omega (arith, ints, clamps, lo, hi, h.near) }

@@ -24,7 +24,8 @@ use Rattle.halo_model.specs.Backward.{above_zero, below_zero, gain, loss, may_pa
 use Rattle.halo_annuity.specs.Worth.{paid_in_all, waited}
 
 -- what is paid by two is paid by both
-paid_in_all-add : (f g : ℕ → ℕ) (years t : ℕ) → paid_in_all (λ u. f u + g u) t years ≡ paid_in_all f t years + paid_in_all g t years
+paid_in_all-add : (f g : ℕ → ℕ) (years t : ℕ)
+    → paid_in_all (λ u. f u + g u) t years ≡ paid_in_all f t years + paid_in_all g t years
 paid_in_all-add f g zero t = refl
 paid_in_all-add f g (suc years) t = omega (arith, paid_in_all-add f g years (suc t))
 
@@ -40,10 +41,17 @@ module _ {X : Type 0} (xs : List X) (paid : X → ℕ → ℕ) (bound : ℕ) whe
   pub most-together : (years t : ℕ) → AtMost t years → sum_over xs (λ x. paid_in_all (paid x) t years) ≤ years * bound
   most-together zero t h = omega (arith, sum_over-none xs)
   most-together (suc years) t h =
-      omega (arith, sum_over-add xs (λ x. paid x t) (λ x. paid_in_all (paid x) (suc t) years), h t (omega arith) (omega arith), most-together years (suc t) (λ u from below. h u (omega arith) (omega arith)))
+      omega (
+        arith,
+        sum_over-add xs (λ x. paid x t) (λ x. paid_in_all (paid x) (suc t) years),
+        h t
+            (omega arith) (omega arith),
+        most-together years (suc t) (λ u from below. h u (omega arith) (omega arith)),
+      )
 
   -- and so carried back over the years it is at most so many times the bound, times one year less
-  pub waited-together : (years t h : ℕ) → years ≤ suc h → AtMost t years → sum_over xs (λ x. waited (paid x) t years) ≤ years * h * bound
+  pub waited-together : (years t h : ℕ)
+      → years ≤ suc h → AtMost t years → sum_over xs (λ x. waited (paid x) t years) ≤ years * h * bound
   waited-together zero t h few each = omega (arith, sum_over-none xs)
   waited-together (suc years) t zero few each =
       let none : years ≡ 0 = omega arith in
@@ -61,26 +69,34 @@ two-parts : (z : ℤ) → above_zero z + below_zero z ≡ size z
 two-parts (pos n) = omega arith
 two-parts (negsuc n) = omega arith
 
-pub both-parts : (pay : PlainPay) (T t : ℕ) (s : List Bool) → gain pay T s t + loss pay T s t ≡ paid_at pay T t * size (form pay t s)
+pub both-parts : (pay : PlainPay) (T t : ℕ) (s : List Bool)
+    → gain pay T s t + loss pay T s t ≡ paid_at pay T t * size (form pay t s)
 both-parts pay T t s = omega (arith, ap (λ (n : ℕ). paid_at pay T t * n) (two-parts (form pay t s)))
 
 -- each of some numbers is at most the greatest
-greatest-above : (f : ℕ → ℕ) (count first t : ℕ) → first ≤ t → t < first + count → f t ≤ greatest 1 (map f (numbers_from first count))
+greatest-above : (f : ℕ → ℕ) (count first t : ℕ)
+    → first ≤ t → t < first + count → f t ≤ greatest 1 (map f (numbers_from first count))
 greatest-above f zero first t from below = absurd (omega arith)
 greatest-above f (suc count) first t from below = ⊎_elim
     (λ (later : first < t). omega (arith, greatest-above f count (suc first) t (omega arith) (omega arith)))
     (λ (here : t ≤ first). let e : t ≡ first = omega arith in rw e (omega arith))
     (cases_lt first t)
 
-pub sums-of-masks : (n : ℕ) (f : List Bool → ℕ) → sum_over (numbers_from 0 (2 ^ n)) (λ mask. f (bits n mask)) ≡ sum_over (sets n) f
-sums-of-masks n f = pos_injective _ _ (sym (int_sum_over-pos (numbers_from 0 (2 ^ n)) (λ mask. f (bits n mask))) ∙ int_sum_over-masks n (λ s. pos (f s)) ∙ int_sum_over-pos (sets n) f)
+pub sums-of-masks : (n : ℕ) (f : List Bool → ℕ)
+    → sum_over (numbers_from 0 (2 ^ n)) (λ mask. f (bits n mask)) ≡ sum_over (sets n) f
+sums-of-masks n f = pos_injective _ _ (sym (int_sum_over-pos (numbers_from 0 (2 ^ n)) (λ mask. f (bits n mask)))
+    ∙ int_sum_over-masks n (λ s. pos (f s)) ∙ int_sum_over-pos (sets n) f)
 
 -- the sizes of the coefficients at a time of the form
 pub sizes-within : (pay : PlainPay) (n years t : ℕ) → first_time pay.kind ≤ t → t < first_time pay.kind + years
     → sum_over (numbers_from 0 (2 ^ n)) (λ mask. size (form pay t (bits n mask))) ≤ form_weight pay n years
 sizes-within pay n years t from below =
     let e = sums-of-masks n (λ s. size (form pay t s)) ∙ sym (sum_over-map (form pay t) (sets n) size) in
-    omega (arith, e, greatest-above (λ u. sum_over (coefficients_at pay n u) size) years (first_time pay.kind) t from below)
+    omega (
+      arith,
+      e,
+      greatest-above (λ u. sum_over (coefficients_at pay n u) size) years (first_time pay.kind) t from below,
+    )
 
 -- a payment of 1, by its factor
 factor-within : (vary : Vary) (passed years : ℕ) → passed ≤ years → factor vary passed ≤ greatest_factor vary years
@@ -97,11 +113,18 @@ cond-within : (may : Bool) (m n : ℕ) → m ≤ n → cond may m 0 ≤ n
 cond-within true m n h = h
 cond-within false m n h = omega arith
 
-pub paid-within : (pay : PlainPay) → pay.amount ≡ 1 → (T t years : ℕ) → t ≤ years → paid_at pay T t ≤ greatest_factor pay.vary years
+pub paid-within : (pay : PlainPay)
+    → pay.amount ≡ 1 → (T t years : ℕ) → t ≤ years → paid_at pay T t ≤ greatest_factor pay.vary years
 paid-within pay one T t years h =
     cond-within (may_pay pay.kind pay.defer T t) _ _
-    (let e : payment pay (years_passed pay.kind pay.defer t) ≡ 1 * factor pay.vary (years_passed pay.kind pay.defer t) = ap (λ (a : ℕ). a * factor pay.vary (years_passed pay.kind pay.defer t)) one in
-    omega (arith, e, factor-within pay.vary (years_passed pay.kind pay.defer t) years (omega (arith, passed-within pay.kind pay.defer t))))
+    (let e : payment pay (years_passed pay.kind pay.defer t) ≡ 1 * factor pay.vary (years_passed pay.kind pay.defer t) =
+    ap (λ (a : ℕ). a * factor pay.vary (years_passed pay.kind pay.defer t)) one in
+    omega (
+      arith,
+      e,
+      factor-within pay.vary
+          (years_passed pay.kind pay.defer t) years (omega (arith, passed-within pay.kind pay.defer t)),
+    ))
 
 -- before the first time of its form nothing is paid
 pub never-before : (kind : Kind) (defer T t : ℕ) → t < first_time kind → may_pay kind defer T t ≡ false
@@ -110,15 +133,21 @@ never-before Due defer T t h = absurd (omega arith)
 never-before Immediate defer T t h = let e : t ≡ 0 = omega arith in rw e (grind (arith, nat_tests))
 
 -- what the coefficients of all sets pay at a time of the form, without their signs
-pub paid-together : (pay : PlainPay) → pay.amount ≡ 1 → (n years T t : ℕ) → 1 ≤ years → t ≤ last_time_of_form pay.kind years
-    → sum_over (numbers_from 0 (2 ^ n)) (λ mask. gain pay T (bits n mask) t + loss pay T (bits n mask) t) ≤ greatest_factor pay.vary years * form_weight pay n years
+pub paid-together : (pay : PlainPay)
+    → pay.amount ≡ 1 → (n years T t : ℕ) → 1 ≤ years → t ≤ last_time_of_form pay.kind years
+    → sum_over (numbers_from 0 (2 ^ n)) (λ mask. gain pay T (bits n mask) t + loss pay T (bits n mask) t)
+    ≤ greatest_factor pay.vary years * form_weight pay n years
 paid-together pay one n years T t some within = ⊎_elim
     (λ (before : t < first_time pay.kind).
-    let e : (s : List Bool) → gain pay T s t + loss pay T s t ≡ 0 = λ s. both-parts pay T t s ∙ ap (λ may. cond may (payment pay (years_passed pay.kind pay.defer t)) 0 * size (form pay t s)) (never-before pay.kind pay.defer T t before) ∙ omega arith in
+    let e : (s : List Bool) → gain pay T s t + loss pay T s t ≡ 0 = λ s. both-parts pay T t s
+    ∙ ap (λ may. cond may (payment pay (years_passed pay.kind pay.defer t)) 0 * size (form pay t s))
+    (never-before pay.kind pay.defer T t before) ∙ omega arith in
     omega (arith, sum_over-ext masks _ _ (λ mask. e (bits n mask)), sum_over-none masks))
     (λ (started : first_time pay.kind ≤ t).
-    let e = sum_over-ext masks _ _ (λ mask. both-parts pay T t (bits n mask)) ∙ sum_over-scale masks (paid_at pay T t) (λ mask. size (form pay t (bits n mask))) in
-    let f = mul-le _ _ _ _ (paid-within pay one T t years (last-within pay.kind years t some within)) (sizes-within pay n years t started (in-form pay.kind years t some within)) in
+    let e = sum_over-ext masks _ _ (λ mask. both-parts pay T t (bits n mask))
+    ∙ sum_over-scale masks (paid_at pay T t) (λ mask. size (form pay t (bits n mask))) in
+    let f = mul-le _ _ _ _ (paid-within pay one T t years (last-within pay.kind years t some within))
+    (sizes-within pay n years t started (in-form pay.kind years t some within)) in
     omega (arith, e, f))
     (cases_lt t (first_time pay.kind))
   where
@@ -137,12 +166,17 @@ paid-together pay one n years T t some within = ⊎_elim
 
 -- the widths of all sets of n lives, from T on to the end of the form
 pub widths-together : (pay : PlainPay) → pay.amount ≡ 1 → (n years T : ℕ) → 1 ≤ years
-    → sum_over (numbers_from 0 (2 ^ n)) (λ mask. waited (gain pay T (bits n mask)) T (suc (last_time_of_form pay.kind years) - T) + waited (loss pay T (bits n mask)) T (suc (last_time_of_form pay.kind years) - T))
+    → sum_over (numbers_from 0 (2 ^ n))
+    (λ mask. waited (gain pay T (bits n mask)) T (suc (last_time_of_form pay.kind years) - T)
+    + waited (loss pay T (bits n mask)) T (suc (last_time_of_form pay.kind years) - T))
     ≤ (years + 1) * years * (greatest_factor pay.vary years * form_weight pay n years)
 widths-together pay one n years T some =
-    let e = sum_over-ext masks _ _ (λ mask. sym (waited-add (gain pay T (bits n mask)) (loss pay T (bits n mask)) span T)) in
-    let f = waited-together masks (λ mask u. gain pay T (bits n mask) u + loss pay T (bits n mask) u) bound span T years few (λ u from below. paid-together pay one n years T u some (in-span u from below)) in
-    let g : span * years * bound ≤ (years + 1) * years * bound = mul-le-mul_right bound (mul-le-mul_right years (omega (arith, few))) in
+    let e = sum_over-ext masks _ _
+    (λ mask. sym (waited-add (gain pay T (bits n mask)) (loss pay T (bits n mask)) span T)) in
+    let f = waited-together masks (λ mask u. gain pay T (bits n mask) u + loss pay T (bits n mask) u)
+    bound span T years few (λ u from below. paid-together pay one n years T u some (in-span u from below)) in
+    let g : span * years * bound ≤ (years + 1) * years * bound =
+    mul-le-mul_right bound (mul-le-mul_right years (omega (arith, few))) in
     omega (arith, e, f, g)
   where
     masks : List ℕ
@@ -166,7 +200,8 @@ widths-together pay one n years T some =
     in-span u from below = omega arith
 
 -- the count of a pay has room for them, for up to twelve lives
-pub count-has-room : (n : ℕ) (m : Measures) (w : ℕ) → n ≤ 12 → 1 ≤ m.nodes → m.share ≡ 1 → w ≤ (m.horizon + 1) * m.horizon * (m.factor * m.weight) → (n + 2) * w ≤ width_count m
+pub count-has-room : (n : ℕ) (m : Measures) (w : ℕ) → n ≤ 12
+    → 1 ≤ m.nodes → m.share ≡ 1 → w ≤ (m.horizon + 1) * m.horizon * (m.factor * m.weight) → (n + 2) * w ≤ width_count m
 unfolding width_count
 count-has-room n m w few some alone h =
     let two : 2 ≤ m.nodes + 1 = omega arith in
@@ -174,6 +209,8 @@ count-has-room n m w few some alone h =
     let rest : ℕ = (m.horizon + 1) * (m.factor * m.weight) in
     let a : (n + 2) * w ≤ 14 * w = mul-le-mul_right w (omega arith) in
     let b : 14 * w ≤ 14 * m.horizon * rest = omega (arith, h) in
-    let c : 4 * (m.horizon + m.named + 3) ≤ (m.nodes + 1) ^ 2 * (m.horizon + m.named + 3) = mul-le-mul_right (m.horizon + m.named + 3) (omega (arith, square)) in
-    let d : 14 * m.horizon * rest ≤ 6 * ((m.nodes + 1) ^ 2 * (m.horizon + m.named + 3)) * rest = mul-le-mul_right rest (omega (arith, c)) in
+    let c : 4 * (m.horizon + m.named + 3) ≤ (m.nodes + 1) ^ 2 * (m.horizon + m.named + 3) =
+    mul-le-mul_right (m.horizon + m.named + 3) (omega (arith, square)) in
+    let d : 14 * m.horizon * rest ≤ 6 * ((m.nodes + 1) ^ 2 * (m.horizon + m.named + 3)) * rest =
+    mul-le-mul_right rest (omega (arith, c)) in
     rw alone (omega (arith, a, b, d))

@@ -27,7 +27,8 @@ use Rattle.halo_annuity.proofs.Survivors.{size-within}
 pub coefficient-sized : (pay : PlainPay) (t : ℕ) (s : List Bool) → length s ≤ 12 → IsSized (form pay t s) (2 ^ 11)
 unfolding form
 coefficient-sized pay t s few =
-    let bound = coefficients-bounded (λ u. exists_by_mark pay.mark pay.body (in_set u) (is_on (view_of pay.kind) t)) s in
+    let bound =
+    coefficients-bounded (λ u. exists_by_mark pay.mark pay.body (in_set u) (is_on (view_of pay.kind) t)) s in
     let less : size_of s - 1 ≤ 11 = omega (arith, few, size-within s) in
     let power : 2 ^ (size_of s - 1) ≤ 2 ^ 11 = pow-le-pow_right (omega arith) less in
     record { low = omega (arith, ints, bound.0, power); high = omega (arith, ints, bound.1, power) }
@@ -52,36 +53,47 @@ module _ (pay : PlainPay) (one : pay.amount ≡ 1) (varies : HasValidVary pay.va
   gain-small : (t : ℕ) → t ≤ 200 → gain pay T (bits n mask) t ≤ 201 * 2 ^ 11
   gain-small t h =
       let paid : paid_at pay T t ≤ 201 = omega (arith, paid-within pay one T t 200 h, factor-sized pay.vary varies) in
-      let c : above_zero (form pay t (bits n mask)) ≤ 2 ^ 11 = above-sized (form pay t (bits n mask)) (2 ^ 11) (sized t) in
+      let c : above_zero (form pay t (bits n mask)) ≤ 2 ^ 11 =
+      above-sized (form pay t (bits n mask)) (2 ^ 11) (sized t) in
       mul-le (paid_at pay T t) (above_zero (form pay t (bits n mask))) 201 (2 ^ 11) paid c
 
   loss-small : (t : ℕ) → t ≤ 200 → loss pay T (bits n mask) t ≤ 201 * 2 ^ 11
   loss-small t h =
       let paid : paid_at pay T t ≤ 201 = omega (arith, paid-within pay one T t 200 h, factor-sized pay.vary varies) in
-      let c : below_zero (form pay t (bits n mask)) ≤ 2 ^ 11 = below-sized (form pay t (bits n mask)) (2 ^ 11) (sized t) in
+      let c : below_zero (form pay t (bits n mask)) ≤ 2 ^ 11 =
+      below-sized (form pay t (bits n mask)) (2 ^ 11) (sized t) in
       mul-le (paid_at pay T t) (below_zero (form pay t (bits n mask))) 201 (2 ^ 11) paid c
 
-pub most-small : (paid : ℕ → ℕ) (bound years t : ℕ) → ((u : ℕ) → u ≤ 200 → paid u ≤ bound) → t + years ≤ 201 → paid_in_all paid t years ≤ years * bound
+pub most-small : (paid : ℕ → ℕ) (bound years t : ℕ)
+    → ((u : ℕ) → u ≤ 200 → paid u ≤ bound) → t + years ≤ 201 → paid_in_all paid t years ≤ years * bound
 most-small paid bound zero t each h = omega arith
-most-small paid bound (suc years) t each h = omega (arith, each t (omega (arith, h)), most-small paid bound years (suc t) each (omega (arith, h)))
+most-small paid bound (suc years) t each h =
+    omega (arith, each t (omega (arith, h)), most-small paid bound years (suc t) each (omega (arith, h)))
 
-pub small-within : (i : Ends) (most years : ℕ) → years ≤ 201 → most ≤ years * (201 * 2 ^ 11) → IsWithin i (pos 0) (pos (most * fine)) → IsWithin i (pos 0) (pos (10 ^ 32))
+pub small-within : (i : Ends) (most years : ℕ) → years ≤ 201
+    → most ≤ years * (201 * 2 ^ 11) → IsWithin i (pos 0) (pos (most * fine)) → IsWithin i (pos 0) (pos (10 ^ 32))
 small-within i most years few h within =
     let m : most ≤ 10 ^ 14 = omega (arith, few, h) in
     let n : most * fine ≤ 10 ^ 14 * fine = mul-le-mul_right fine m in
     record { low = within.low; high = omega (arith, ints, within.high, n) }
 
-module _ (b : Basis) (pay : PlainPay) (one : pay.amount ≡ 1) (varies : HasValidVary pay.vary) (T n : ℕ) (few : n ≤ 12) (lists : Lists) where
+module _ (b : Basis) (pay : PlainPay)
+    (one : pay.amount ≡ 1) (varies : HasValidVary pay.vary) (T n : ℕ) (few : n ≤ 12) (lists : Lists) where
   pub values-modest : (t years : ℕ) → t + years ≤ 201 → HoldValues b pay T n t years lists → AreModest (2 ^ n) lists
   values-modest t years h values mask below =
       let v = values mask below in (
-        small-within _ _ years (omega (arith, h)) (most-small (gain pay T (bits n mask)) (201 * 2 ^ 11) years t (gain-small pay one varies T n mask few) h) v.0.within,
-        small-within _ _ years (omega (arith, h)) (most-small (loss pay T (bits n mask)) (201 * 2 ^ 11) years t (loss-small pay one varies T n mask few) h) v.1.within,
+        small-within _ _ years (omega (arith, h)) (most-small
+            (gain pay T (bits n mask)) (201 * 2 ^ 11) years t (gain-small pay one varies T n mask few) h) v.0.within,
+        small-within _ _ years (omega (arith, h)) (most-small
+            (loss pay T (bits n mask)) (201 * 2 ^ 11) years t (loss-small pay one varies T n mask few) h) v.1.within,
       )
 
-  pub carried-modest : (t years : ℕ) → suc t + years ≤ 201 → HoldCarried b pay T n t years lists → AreModest (2 ^ n) lists
+  pub carried-modest : (t years : ℕ)
+      → suc t + years ≤ 201 → HoldCarried b pay T n t years lists → AreModest (2 ^ n) lists
   carried-modest t years h values mask below =
       let v = values mask below in (
-        small-within _ _ years (omega (arith, h)) (most-small (gain pay T (bits n mask)) (201 * 2 ^ 11) years (suc t) (gain-small pay one varies T n mask few) h) v.0.within,
-        small-within _ _ years (omega (arith, h)) (most-small (loss pay T (bits n mask)) (201 * 2 ^ 11) years (suc t) (loss-small pay one varies T n mask few) h) v.1.within,
+        small-within _ _ years (omega (arith, h)) (most-small (gain pay T (bits n mask))
+            (201 * 2 ^ 11) years (suc t) (gain-small pay one varies T n mask few) h) v.0.within,
+        small-within _ _ years (omega (arith, h)) (most-small (loss pay T (bits n mask))
+            (201 * 2 ^ 11) years (suc t) (loss-small pay one varies T n mask few) h) v.1.within,
       )

@@ -9,7 +9,7 @@ use Rattle.halo_num.specs.Chance.{EnclosesChance}
 use Rattle.halo_model.specs.Life.{after_first}
 use Rattle.halo_model.specs.Basis.{Basis}
 use Rattle.halo_model.specs.Outcome.{joint_survivors}
-use Rattle.halo_life.specs.Products.{product_in}
+use Rattle.halo_annuity.specs.SetProduct.{product_in}
 use Rattle.halo_annuity.specs.RunWorth.{EnclosesDiscountedSurvival}
 use Rattle.halo_annuity.proofs.Carried.{wider}
 use Rattle.halo_annuity.proofs.Survivors.{size-within}
@@ -26,12 +26,16 @@ module _ (f : ℕ → ℕ) where
   one-first true = omega arith
   one-first false = omega arith
 
-pub product-more : (f : ℕ → ℕ) (n mask : ℕ) → product_in f (bits (suc n) mask) ≡ product_in f (bits n mask) * cond (has_bit mask n) (f n) 1
+pub product-more : (f : ℕ → ℕ) (n mask : ℕ)
+    → product_in f (bits (suc n) mask) ≡ product_in f (bits n mask) * cond (has_bit mask n) (f n) 1
 product-more f zero mask = rw (first-bit mask) (one-first f (nat_eq (mask % 2) 1))
-product-more f (suc n) mask = rw (halved mask n) (with-first (nat_eq (mask % 2) 1) (product-more (after_first f) n (mask / 2)))
+product-more f (suc n) mask =
+    rw (halved mask n) (with-first (nat_eq (mask % 2) 1) (product-more (after_first f) n (mask / 2)))
   where
-    with-first : (b : Bool) → product_in (after_first f) (bits (suc n) (mask / 2)) ≡ product_in (after_first f) (bits n (mask / 2)) * cond (has_bit (mask / 2) n) (f (suc n)) 1
-        → product_in f (b ∷ bits (suc n) (mask / 2)) ≡ product_in f (b ∷ bits n (mask / 2)) * cond (has_bit (mask / 2) n) (f (suc n)) 1
+    with-first : (b : Bool) → product_in (after_first f) (bits (suc n) (mask / 2))
+        ≡ product_in (after_first f) (bits n (mask / 2)) * cond (has_bit (mask / 2) n) (f (suc n)) 1
+        → product_in f (b ∷ bits (suc n) (mask / 2))
+        ≡ product_in f (b ∷ bits n (mask / 2)) * cond (has_bit (mask / 2) n) (f (suc n)) 1
     with-first true e = rw e (omega arith)
     with-first false e = e
 
@@ -43,16 +47,21 @@ size-more zero mask = rw (first-bit mask) (one (nat_eq (mask % 2) 1))
     one false = omega arith
 size-more (suc n) mask = rw (halved mask n) (with-first (nat_eq (mask % 2) 1) (size-more n (mask / 2)))
   where
-    with-first : (b : Bool) → size_of (bits (suc n) (mask / 2)) ≡ size_of (bits n (mask / 2)) + cond (has_bit (mask / 2) n) 1 0
+    with-first : (b : Bool)
+        → size_of (bits (suc n) (mask / 2)) ≡ size_of (bits n (mask / 2)) + cond (has_bit (mask / 2) n) 1 0
         → size_of (b ∷ bits (suc n) (mask / 2)) ≡ size_of (b ∷ bits n (mask / 2)) + cond (has_bit (mask / 2) n) 1 0
     with-first true e = omega (arith, e)
     with-first false e = e
 
 pub chance-more : (num den : ℕ → ℕ) (n mask : ℕ) (i : Ends)
-    → EnclosesChance (product_in num (bits n mask) * cond (has_bit mask n) (num n) 1) (product_in den (bits n mask) * cond (has_bit mask n) (den n) 1) (2 * size_of (bits n mask) + 2 * cond (has_bit mask n) 1 0) i
-    → EnclosesChance (product_in num (bits (suc n) mask)) (product_in den (bits (suc n) mask)) (2 * size_of (bits (suc n) mask)) i
+    → EnclosesChance (product_in num (bits n mask) * cond (has_bit mask n) (num n) 1)
+    (product_in den (bits n mask) * cond (has_bit mask n) (den n) 1)
+    (2 * size_of (bits n mask) + 2 * cond (has_bit mask n) 1 0) i
+    → EnclosesChance
+    (product_in num (bits (suc n) mask)) (product_in den (bits (suc n) mask)) (2 * size_of (bits (suc n) mask)) i
 chance-more num den n mask i h =
-    let w : 2 * size_of (bits (suc n) mask) ≡ 2 * size_of (bits n mask) + 2 * cond (has_bit mask n) 1 0 = omega (arith, size-more n mask) in
+    let w : 2 * size_of (bits (suc n) mask) ≡ 2 * size_of (bits n mask) + 2 * cond (has_bit mask n) 1 0 =
+    omega (arith, size-more n mask) in
     rw (product-more num n mask, product-more den n mask, w) h
 
 -- the chance of no lives
@@ -66,7 +75,8 @@ sure i lo hi = record {
 -- the discount of a year and the chance of a set to survive it
 pub one-year : (b : Basis) (n t : ℕ) (s : List Bool) (num den : ℕ) (i : Ends) → length s ≡ n
     → EnclosesChance (b.q t * num) ((b.p t + b.q t) * den) (1 + 2 * size_of s + 1) i
-    → (0 < joint_survivors t (in_set s) b.lives → (num ≡ joint_survivors (suc t) (in_set s) b.lives) × (den ≡ joint_survivors t (in_set s) b.lives))
+    → (0 < joint_survivors t (in_set s) b.lives
+    → (num ≡ joint_survivors (suc t) (in_set s) b.lives) × (den ≡ joint_survivors t (in_set s) b.lives))
     → EnclosesDiscountedSurvival b n s t i
 one-year b n t s num den i long chance are = record {
   encloses = λ some. let is = are some in rw (is.0, is.1) at chance.encloses;

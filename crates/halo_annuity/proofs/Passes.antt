@@ -12,7 +12,7 @@ use Rattle.halo_model.specs.Enclosed.{of_one}
 use Rattle.halo_compile.specs.Form.{IsPolyOf}
 use Rattle.halo_compile.proofs.Times.{coefficients-by-mask}
 use Rattle.halo_life.specs.Lists.{Lists, entry, nothing}
-use Rattle.halo_annuity.specs.Growth.{GrowsBy}
+use Rattle.halo_annuity.specs.SetSteps.{GrowsBy}
 use Rattle.halo_annuity.specs.Worth.{EnclosesSetWorth, HoldCarried, HoldValues}
 use Rattle.halo_annuity.proofs.Carried.{paid-set}
 
@@ -22,8 +22,10 @@ unfolding form
 form-of-one pay t s = refl
 
 -- the coefficients of the polynomial of a time, for amount 1
-pub coefficients-of-one : (pay : PlainPay) (n t : ℕ) (p : List ℤ) → IsPolyOf pay n t p → (mask : ℕ) → mask < 2 ^ n → coefficient_at p mask ≡ form (of_one pay) t (bits n mask)
-coefficients-of-one pay n t p is mask below = coefficients-by-mask pay n t p is mask below ∙ form-of-one pay t (bits n mask)
+pub coefficients-of-one : (pay : PlainPay) (n t : ℕ) (p : List ℤ)
+    → IsPolyOf pay n t p → (mask : ℕ) → mask < 2 ^ n → coefficient_at p mask ≡ form (of_one pay) t (bits n mask)
+coefficients-of-one pay n t p is mask below = coefficients-by-mask pay n t p is mask below
+    ∙ form-of-one pay t (bits n mask)
 
 -- where nothing is paid any more
 pub none-worth : (num den most w : ℕ) (i : Ends) → num ≡ 0 → i ≡ nothing → EnclosesSetWorth num den most w i
@@ -34,33 +36,52 @@ none-worth num den most w i e none = rw (e, none) (record {
 })
 
 module _ (b : Basis) (pay : PlainPay) (T n t : ℕ) where
-  pub none-held : (years : ℕ) (lists : Lists) → years ≡ 0 → ((mask : ℕ) → mask < 2 ^ n → entry lists.plus mask ≡ nothing) → ((mask : ℕ) → mask < 2 ^ n → entry lists.minus mask ≡ nothing) → HoldValues b pay T n t years lists
-  none-held years lists e plus minus mask below = rw e (none-worth 0 _ _ _ _ refl (plus mask below), none-worth 0 _ _ _ _ refl (minus mask below))
+  pub none-held : (years : ℕ) (lists : Lists)
+      → years ≡ 0 → ((mask : ℕ) → mask < 2 ^ n → entry lists.plus mask ≡ nothing)
+      → ((mask : ℕ) → mask < 2 ^ n → entry lists.minus mask ≡ nothing) → HoldValues b pay T n t years lists
+  none-held years lists e plus minus mask below =
+      rw e (none-worth 0 _ _ _ _ refl (plus mask below), none-worth 0 _ _ _ _ refl (minus mask below))
 
-  pub none-carried : (years : ℕ) (lists : Lists) → years ≡ 0 → ((mask : ℕ) → mask < 2 ^ n → entry lists.plus mask ≡ nothing) → ((mask : ℕ) → mask < 2 ^ n → entry lists.minus mask ≡ nothing) → HoldCarried b pay T n t years lists
-  none-carried years lists e plus minus mask below = rw e (none-worth (b.q t * 0) _ _ _ _ (omega arith) (plus mask below), none-worth (b.q t * 0) _ _ _ _ (omega arith) (minus mask below))
+  pub none-carried : (years : ℕ) (lists : Lists)
+      → years ≡ 0 → ((mask : ℕ) → mask < 2 ^ n → entry lists.plus mask ≡ nothing)
+      → ((mask : ℕ) → mask < 2 ^ n → entry lists.minus mask ≡ nothing) → HoldCarried b pay T n t years lists
+  none-carried years lists e plus minus mask below = rw e (
+    none-worth (b.q t * 0) _ _ _ _
+        (omega arith) (plus mask below),
+    none-worth (b.q t * 0) _ _ _ _ (omega arith) (minus mask below),
+  )
 
   -- what is paid at t is added
-  pub sets-paid : (years more paid : ℕ) (poly : List ℤ) (old new : Lists) → more ≡ suc years → paid ≡ paid_at pay T t → ((mask : ℕ) → mask < 2 ^ n → coefficient_at poly mask ≡ form pay t (bits n mask))
+  pub sets-paid : (years more paid : ℕ) (poly : List ℤ) (old new : Lists) → more ≡ suc years
+      → paid ≡ paid_at pay T t → ((mask : ℕ) → mask < 2 ^ n → coefficient_at poly mask ≡ form pay t (bits n mask))
       → HoldCarried b pay T n t years old
-      → ((mask : ℕ) → mask < 2 ^ n → GrowsBy (paid * above_zero (coefficient_at poly mask)) (entry old.plus mask) (entry new.plus mask))
-      → ((mask : ℕ) → mask < 2 ^ n → GrowsBy (paid * below_zero (coefficient_at poly mask)) (entry old.minus mask) (entry new.minus mask))
+      → ((mask : ℕ) → mask < 2 ^ n
+      → GrowsBy (paid * above_zero (coefficient_at poly mask)) (entry old.plus mask) (entry new.plus mask))
+      → ((mask : ℕ) → mask < 2 ^ n
+      → GrowsBy (paid * below_zero (coefficient_at poly mask)) (entry old.minus mask) (entry new.minus mask))
       → HoldValues b pay T n t more new
   sets-paid years more paid poly old new e is coefficients carried plus minus mask below =
       let p = plus mask below in
       let m = minus mask below in
       let c = coefficients mask below in
       rw e (
-        paid-set b n (bits n mask) (gain pay T (bits n mask)) years t (entry old.plus mask) (entry new.plus mask) (carried mask below).0 (rw (is, c) at p.lo) (rw (is, c) at p.hi),
-        paid-set b n (bits n mask) (loss pay T (bits n mask)) years t (entry old.minus mask) (entry new.minus mask) (carried mask below).1 (rw (is, c) at m.lo) (rw (is, c) at m.hi),
+        paid-set b n (bits n mask) (gain pay T (bits n mask)) years t (entry old.plus mask)
+            (entry new.plus mask) (carried mask below).0 (rw (is, c) at p.lo) (rw (is, c) at p.hi),
+        paid-set b n (bits n mask) (loss pay T (bits n mask)) years t (entry old.minus mask)
+            (entry new.minus mask) (carried mask below).1 (rw (is, c) at m.lo) (rw (is, c) at m.hi),
       )
 
   -- where nothing is paid at t, nothing has to be added
-  pub none-paid : (years more : ℕ) (lists : Lists) → more ≡ suc years → paid_at pay T t ≡ 0 → HoldCarried b pay T n t years lists → HoldValues b pay T n t more lists
+  pub none-paid : (years more : ℕ) (lists : Lists)
+      → more ≡ suc years → paid_at pay T t ≡ 0 → HoldCarried b pay T n t years lists → HoldValues b pay T n t more lists
   none-paid years more lists e none carried mask below =
       rw e (
-        paid-set b n (bits n mask) (gain pay T (bits n mask)) years t (entry lists.plus mask) (entry lists.plus mask) (carried mask below).0 (same _ _ (above_zero (form pay t (bits n mask))) none) (same _ _ (above_zero (form pay t (bits n mask))) none),
-        paid-set b n (bits n mask) (loss pay T (bits n mask)) years t (entry lists.minus mask) (entry lists.minus mask) (carried mask below).1 (same _ _ (below_zero (form pay t (bits n mask))) none) (same _ _ (below_zero (form pay t (bits n mask))) none),
+        paid-set b n (bits n mask) (gain pay T (bits n mask)) years t (entry lists.plus mask)
+            (entry lists.plus mask) (carried mask below).0 (same _ _ (above_zero (form pay t (bits n mask))) none)
+            (same _ _ (above_zero (form pay t (bits n mask))) none),
+        paid-set b n (bits n mask) (loss pay T (bits n mask)) years t (entry lists.minus mask)
+            (entry lists.minus mask) (carried mask below).1 (same _ _ (below_zero (form pay t (bits n mask))) none)
+            (same _ _ (below_zero (form pay t (bits n mask))) none),
       )
     where
       same : (z : ℤ) (p k : ℕ) → p ≡ 0 → z ≡ z +ℤ pos (p * k * fine)

@@ -9,7 +9,7 @@ use Rattle.halo_sums.specs.Sums.{numbers_from, sum_over}
 use Rattle.halo_sums.specs.Sets.{in_set}
 use Rattle.halo_sums.specs.Masks.{bits}
 use Rattle.halo_sums.proofs.Integers.{mul_neg, neg_mul, sub_mul}
-use Rattle.halo_sums.proofs.Numbers.{numbers_from-split}
+use Rattle.halo_sums.proofs.Numbers.{numbers_from-split, sum_over-numbers_ext, sum_over-numbers_one}
 use Rattle.halo_sums.proofs.Sums.{sum_over-append, sum_over-none, sum_over-scale, sum_over-scale_right}
 use Rattle.halo_num.specs.Ends.{Ends, IsSized, IsWithin, fine}
 use Rattle.halo_num.specs.Enclosure.{Encloses}
@@ -62,50 +62,62 @@ module _ (pay : PlainPay) (run : Run) (times : ℕ) where
   pub paid-less : (t : ℕ) → paid_in pay run times t ≤ paid_at pay 0 t * times
   paid-less t = at-most (nat_le run.first t && nat_le t run.last) (paid_at pay 0 t * times)
 
-  pub run-small : pay.amount ≡ 1 → HasValidVary pay.vary → times ≤ 2 ^ 11 → (t : ℕ) → t ≤ 200 → paid_in pay run times t ≤ 201 * 2 ^ 11
+  pub run-small : pay.amount ≡ 1
+      → HasValidVary pay.vary → times ≤ 2 ^ 11 → (t : ℕ) → t ≤ 200 → paid_in pay run times t ≤ 201 * 2 ^ 11
   run-small one varies few t h =
       let paid : paid_at pay 0 t ≤ 201 = omega (arith, paid-within pay one 0 t 200 h, factor-sized pay.vary varies) in
       omega (arith, paid-less t, mul-le (paid_at pay 0 t) times 201 (2 ^ 11) paid few)
 
   -- and so a value is a small number
-  pub run-within : (b : Basis) (n t years : ℕ) (s : List Bool) (i : Ends) → pay.amount ≡ 1 → HasValidVary pay.vary → times ≤ 2 ^ 11 → t + years ≤ 201 → EnclosesSet b n (paid_in pay run times) s t years i → IsWithin i (pos 0) (pos (10 ^ 32))
+  pub run-within : (b : Basis) (n t years : ℕ) (s : List Bool) (i : Ends)
+      → pay.amount ≡ 1 → HasValidVary pay.vary → times ≤ 2 ^ 11
+      → t + years ≤ 201 → EnclosesSet b n (paid_in pay run times) s t years i → IsWithin i (pos 0) (pos (10 ^ 32))
   run-within b n t years s i one varies few h worth =
-      small-within i _ years (omega (arith, h)) (most-small (paid_in pay run times) (201 * 2 ^ 11) years t (run-small one varies few) h) worth.within
+      small-within i _ years (omega (arith, h))
+      (most-small (paid_in pay run times) (201 * 2 ^ 11) years t (run-small one varies few) h) worth.within
 
 -- one year back
 module _ (b : Basis) (pay : PlainPay) (run : Run) (times n : ℕ) (s : List Bool) where
-  pub run-carried : AreLives b.lives → (years t : ℕ) (later chance result : Ends) → t < b.last_time → EnclosesSet b n (paid_in pay run times) s (suc t) years later → EnclosesDiscountedSurvival b n s t chance → Carries later chance result
+  pub run-carried : AreLives b.lives → (years t : ℕ) (later chance result : Ends)
+      → t < b.last_time → EnclosesSet b n (paid_in pay run times) s (suc t) years later
+      → EnclosesDiscountedSurvival b n s t chance → Carries later chance result
       → EnclosesCarried b n (paid_in pay run times) s t years result
   run-carried rule years t later chance result before worth year carries =
-      carried-set b rule n s (paid_in pay run times) years t (2 * n + 2) later chance result before worth year.encloses year.narrow (omega arith) carries
+      carried-set b rule n s (paid_in pay run times) years t
+      (2 * n + 2) later chance result before worth year.encloses year.narrow (omega arith) carries
 
-  pub run-paid : (years t paid : ℕ) (before ones result : Ends) → run.first ≤ t → t ≤ run.last → paid ≡ paid_at pay 0 t → EnclosesCarried b n (paid_in pay run times) s t years before
-      → ones.lo ≡ pos (paid * times * fine) → ones.hi ≡ pos (paid * times * fine) → result.lo ≡ before.lo +ℤ ones.lo → result.hi ≡ before.hi +ℤ ones.hi
+  pub run-paid : (years t paid : ℕ) (before ones result : Ends) → run.first ≤ t
+      → t ≤ run.last → paid ≡ paid_at pay 0 t → EnclosesCarried b n (paid_in pay run times) s t years before
+      → ones.lo ≡ pos (paid * times * fine)
+      → ones.hi ≡ pos (paid * times * fine) → result.lo ≡ before.lo +ℤ ones.lo → result.hi ≡ before.hi +ℤ ones.hi
       → EnclosesSet b n (paid_in pay run times) s t (suc years) result
   run-paid years t paid before ones result from to is worth ones_lo ones_hi lo hi =
-      let e : paid * times * fine ≡ paid_in pay run times t * fine = ap (λ (k : ℕ). k * fine) (ap (λ (p : ℕ). p * times) is ∙ sym (in-run pay run times t from to)) in
+      let e : paid * times * fine ≡ paid_in pay run times t * fine =
+      ap (λ (k : ℕ). k * fine) (ap (λ (p : ℕ). p * times) is ∙ sym (in-run pay run times t from to)) in
       let f = ap pos e in
-      paid-set b n s (paid_in pay run times) years t before result worth (omega (arith, ints, lo, ones_lo, f)) (omega (arith, ints, hi, ones_hi, f))
+      paid-set b n s (paid_in pay run times) years t before result worth
+      (omega (arith, ints, lo, ones_lo, f)) (omega (arith, ints, hi, ones_hi, f))
 
-  pub run-not-paid : (years t : ℕ) (before : Ends) → t < run.first → EnclosesCarried b n (paid_in pay run times) s t years before → EnclosesSet b n (paid_in pay run times) s t (suc years) before
+  pub run-not-paid : (years t : ℕ) (before : Ends) → t < run.first → EnclosesCarried b n
+      (paid_in pay run times) s t years before → EnclosesSet b n (paid_in pay run times) s t (suc years) before
   run-not-paid years t before early worth =
       let e : paid_in pay run times t * fine ≡ 0 = rw (before-run pay run times t early) (omega arith) in
-      paid-set b n s (paid_in pay run times) years t before before worth (rw e (omega (arith, ints))) (rw e (omega (arith, ints)))
+      paid-set b n s
+      (paid_in pay run times) years t before before worth (rw e (omega (arith, ints))) (rw e (omega (arith, ints)))
 
   -- at the last time of the run
-  pub run-last : (paid : ℕ) (ones : Ends) → run.first ≤ run.last → paid ≡ paid_at pay 0 run.last → ones.lo ≡ pos (paid * times * fine) → ones.hi ≡ pos (paid * times * fine)
+  pub run-last : (paid : ℕ) (ones : Ends) → run.first ≤ run.last
+      → paid ≡ paid_at pay 0 run.last → ones.lo ≡ pos (paid * times * fine) → ones.hi ≡ pos (paid * times * fine)
       → EnclosesSet b n (paid_in pay run times) s run.last 1 ones
   run-last paid ones some is lo hi =
-      run-paid 0 run.last paid nothing ones ones some (omega arith) is (none-worth (b.q run.last * 0) _ _ _ nothing (omega arith) refl) lo hi (omega (arith, ints)) (omega (arith, ints))
-
--- equal at each of the numbers, equal in sum
-pub sum-ext : (count first : ℕ) (f g : ℕ → ℕ) → ((i : ℕ) → first ≤ i → i < first + count → f i ≡ g i) → sum_over (numbers_from first count) f ≡ sum_over (numbers_from first count) g
-sum-ext zero first f g h = refl
-sum-ext (suc count) first f g h = omega (arith, h first (omega arith) (omega arith), sum-ext count (suc first) f g (λ i from below. h i (omega arith) (omega arith)))
+      run-paid 0 run.last paid nothing ones ones some
+      (omega arith) is (none-worth (b.q run.last * 0) _ _ _ nothing (omega arith) refl) lo hi
+      (omega (arith, ints)) (omega (arith, ints))
 
 -- the recursion over a run is the sum over its times
 pub run-sums : (b : Basis) (pay : PlainPay) (run : Run) (times : ℕ) (s : List Bool) → run.first ≤ run.last
-    → backward b s (paid_in pay run times) 0 (suc run.last) * joint_survivors 0 (outside all_lives s) b.lives ≡ times * sum_over (times_of run) (paid_to_set b pay s)
+    → backward b s (paid_in pay run times) 0 (suc run.last) * joint_survivors 0 (outside all_lives s) b.lives
+    ≡ times * sum_over (times_of run) (paid_to_set b pay s)
 run-sums b pay run times s some =
     ap (λ (n : ℕ). n * others) (
     backward-sums b s (paid_in pay run times) (suc run.last) 0
@@ -113,10 +125,13 @@ run-sums b pay run times s some =
     ∙ ap (λ ts. sum_over ts each) (numbers_from-split run.first (suc run.last - run.first))
     ∙ sum_over-append (numbers_from 0 run.first) (times_of run) each)
     ∙ without-first (sum_over (numbers_from 0 run.first) each) (sum_over (times_of run) each) others
-    (sum-ext run.first 0 each (λ u. 0) (λ u from below. rw (before-run pay run times u (omega arith)) (omega arith)) ∙ sum_over-none (numbers_from 0 run.first))
+    (sum_over-numbers_ext run.first 0 each (λ u. 0) (λ u from below. rw (before-run pay run times u (omega arith))
+    (omega arith)) ∙ sum_over-none (numbers_from 0 run.first))
     ∙ sym (sum_over-scale_right (times_of run) others each)
-    ∙ sum-ext (suc run.last - run.first) run.first (λ u. each u * others) (λ u. times * paid_to_set b pay s u)
-    (λ u from below. rw (in-run pay run times u from (omega arith)) (out (paid_at pay 0 u) times (joint_survivors u (in_set s) b.lives) (discounted b 0 u) others))
+    ∙ sum_over-numbers_ext
+    (suc run.last - run.first) run.first (λ u. each u * others) (λ u. times * paid_to_set b pay s u)
+    (λ u from below. rw (in-run pay run times u from (omega arith))
+    (out (paid_at pay 0 u) times (joint_survivors u (in_set s) b.lives) (discounted b 0 u) others))
     ∙ sum_over-scale (times_of run) times (paid_to_set b pay s)
   where
     others : ℕ
@@ -138,17 +153,22 @@ moved : (orders num others parts : ℕ) → parts ≡ num * others → orders * 
 moved orders num others parts e = rw e (omega arith)
 
 -- with the sign of the coefficient, over the whole denominator
-pub signed-part : (z : ℤ) (num parts others orders den whole : ℕ) (i : Ends) → num * others ≡ (above_zero z + below_zero z) * parts → whole ≡ den * (orders * others)
+pub signed-part : (z : ℤ) (num parts others orders den whole : ℕ) (i : Ends)
+    → num * others ≡ (above_zero z + below_zero z) * parts → whole ≡ den * (orders * others)
     → (below_zero z ≡ 0 → Encloses i (pos num) den) → (0 < below_zero z → Encloses i (pos 0 -ℤ pos num) den)
     → Encloses i (pos orders *ℤ (z *ℤ pos parts)) whole
 signed-part (pos c) num parts others orders den whole i e f positive negative =
     let k : orders * (c * parts) ≡ num * (orders * others) = moved orders num others (c * parts) (omega (arith, e)) in
-    encloses_at i (pos num) (pos orders *ℤ (pos c *ℤ pos parts)) den whole (orders * others) (positive refl) (omega (arith, ints, k)) f
+    encloses_at i (pos num)
+    (pos orders *ℤ (pos c *ℤ pos parts)) den whole (orders * others) (positive refl) (omega (arith, ints, k)) f
 signed-part (negsuc c) num parts others orders den whole i e f positive negative =
-    let k : orders * (suc c * parts) ≡ num * (orders * others) = moved orders num others (suc c * parts) (omega (arith, e)) in
-    encloses_at i (pos 0 -ℤ pos num) (pos orders *ℤ (negsuc c *ℤ pos parts)) den whole (orders * others) (negative (omega arith)) (turned orders c parts num others k) f
+    let k : orders * (suc c * parts) ≡ num * (orders * others) =
+    moved orders num others (suc c * parts) (omega (arith, e)) in
+    encloses_at i (pos 0 -ℤ pos num) (pos orders *ℤ (negsuc c *ℤ pos parts)) den whole
+    (orders * others) (negative (omega arith)) (turned orders c parts num others k) f
   where
-    turned : (orders c parts num others : ℕ) → orders * (suc c * parts) ≡ num * (orders * others) → pos orders *ℤ (negsuc c *ℤ pos parts) ≡ (pos 0 -ℤ pos num) *ℤ pos (orders * others)
+    turned : (orders c parts num others : ℕ) → orders * (suc c * parts) ≡ num * (orders * others)
+        → pos orders *ℤ (negsuc c *ℤ pos parts) ≡ (pos 0 -ℤ pos num) *ℤ pos (orders * others)
     turned orders c parts num others k =
         ap (λ z. pos orders *ℤ z) (neg_mul (pos (suc c)) (pos parts))
         ∙ mul_neg (pos orders) (pos (suc c * parts))
@@ -166,17 +186,11 @@ times-is : (z : ℤ) → above_zero z + below_zero z ≡ size z
 times-is (pos m) = omega arith
 times-is (negsuc m) = omega arith
 
--- one of some numbers is at most their sum
-one-of : (f : ℕ → ℕ) (count first k : ℕ) → first ≤ k → k < first + count → f k ≤ sum_over (numbers_from first count) f
-one-of f zero first k from below = absurd (omega arith)
-one-of f (suc count) first k from below = ⊎_elim
-    (λ (later : first < k). omega (arith, one-of f count (suc first) k (omega arith) (omega arith)))
-    (λ (here : k ≤ first). let e : k ≡ first = omega arith in rw e (omega arith))
-    (cases_lt first k)
-
 -- the width and the size of a part
-module _ (b : Basis) (pay : PlainPay) (annual : pay.kind ≢ Insurance) (one : pay.amount ≡ 1) (some_nodes : 1 ≤ nodes pay.body) (some_years : 1 ≤ horizon b.lives pay.body)
-    (n mask : ℕ) (count : length b.lives ≡ n) (below : mask < 2 ^ n) (run : Run) (inside : IsInForm pay (horizon b.lives pay.body) run) (z : ℤ) (is : z ≡ form pay run.first (bits n mask)) where
+module _ (b : Basis) (pay : PlainPay) (annual : pay.kind ≢ Insurance)
+    (one : pay.amount ≡ 1) (some_nodes : 1 ≤ nodes pay.body) (some_years : 1 ≤ horizon b.lives pay.body)
+    (n mask : ℕ) (count : length b.lives ≡ n) (below : mask < 2 ^ n) (run : Run)
+    (inside : IsInForm pay (horizon b.lives pay.body) run) (z : ℤ) (is : z ≡ form pay run.first (bits n mask)) where
   abbrev pub years : ℕ
   years = horizon b.lives pay.body
 
@@ -202,32 +216,43 @@ module _ (b : Basis) (pay : PlainPay) (annual : pay.kind ≢ Insurance) (one : p
   times-within : times ≤ form_weight pay n years
   times-within =
       let started : run.first ≤ last_time_of_form pay.kind years = omega (arith, inside.some, inside.to) in
-      let all = sizes-within pay n years run.first inside.from (first-years pay.kind years run.first some_years started) in
-      let this = one-of (λ k. size (form pay run.first (bits n k))) (2 ^ n) 0 mask (omega arith) (omega (arith, below)) in
+      let all =
+      sizes-within pay n years run.first inside.from (first-years pay.kind years run.first some_years started) in
+      let this = sum_over-numbers_one
+      (2 ^ n) 0 mask (λ k. size (form pay run.first (bits n k))) (omega arith) (omega (arith, below)) in
       omega (arith, times-is z, ap size is, this, all)
 
   each : (u : ℕ) → u ≤ run.last → sum_over (0 ∷ []) (λ (k : ℕ). paid_in pay run times u) ≤ bound
   each u h = omega (
     arith,
     paid-less pay run times u,
-    mul-le (paid_at pay 0 u) times (greatest_factor pay.vary years) (form_weight pay n years) (paid-within pay one 0 u years (omega (arith, h, to-years))) times-within,
+    mul-le (paid_at pay 0 u) times (greatest_factor pay.vary years)
+        (form_weight pay n years) (paid-within pay one 0 u years (omega (arith, h, to-years))) times-within,
   )
 
   pub part-narrow : n ≤ 12 → (n + 2) * waited (paid_in pay run times) 0 (suc run.last) ≤ width_count (measures_of b pay)
   part-narrow few =
-      let w = waited-together (0 ∷ []) (λ (k : ℕ) u. paid_in pay run times u) bound (suc run.last) 0 years (omega (arith, to-years)) (λ u from below. each u (omega arith)) in
-      let m : suc run.last * years * bound ≤ (years + 1) * years * bound = mul-le-mul_right bound (mul-le-mul_right years (omega (arith, to-years))) in
-      let all : waited (paid_in pay run times) 0 (suc run.last) ≤ (years + 1) * years * (greatest_factor pay.vary years * form_weight pay (length b.lives) years) = rw count (omega (arith, w, m)) in
-      count-has-room n (measures_of b pay) (waited (paid_in pay run times) 0 (suc run.last)) few some_nodes (share-of-ties b.ties pay.kind _ annual) all
+      let w = waited-together (0 ∷ []) (λ (k : ℕ) u. paid_in pay run times u) bound
+      (suc run.last) 0 years (omega (arith, to-years)) (λ u from below. each u (omega arith)) in
+      let m : suc run.last * years * bound ≤ (years + 1) * years * bound =
+      mul-le-mul_right bound (mul-le-mul_right years (omega (arith, to-years))) in
+      let all : waited (paid_in pay run times) 0 (suc run.last)
+      ≤ (years + 1) * years * (greatest_factor pay.vary years * form_weight pay (length b.lives) years) =
+      rw count (omega (arith, w, m)) in
+      count-has-room n (measures_of b pay)
+      (waited (paid_in pay run times) 0 (suc run.last)) few some_nodes (share-of-ties b.ties pay.kind _ annual) all
 
-  most-is : (kind : Kind) → kind ≢ Insurance → most_worth kind (measures_of b pay) ≡ greatest_factor pay.vary years * (years + 1)
+  most-is : (kind : Kind)
+      → kind ≢ Insurance → most_worth kind (measures_of b pay) ≡ greatest_factor pay.vary years * (years + 1)
   unfolding most_worth
   most-is Insurance k = absurd (k refl)
   most-is Due k = refl
   most-is Immediate k = refl
 
-  pub part-sized : paid_in_all (paid_in pay run times) 0 (suc run.last) ≤ form_weight pay (length b.lives) years * most_worth pay.kind (measures_of b pay)
+  pub part-sized : paid_in_all (paid_in pay run times) 0 (suc run.last)
+      ≤ form_weight pay (length b.lives) years * most_worth pay.kind (measures_of b pay)
   part-sized =
-      let w = most-together (0 ∷ []) (λ (k : ℕ) u. paid_in pay run times u) bound (suc run.last) 0 (λ u from below. each u (omega arith)) in
+      let w = most-together (0 ∷ [])
+      (λ (k : ℕ) u. paid_in pay run times u) bound (suc run.last) 0 (λ u from below. each u (omega arith)) in
       let m : suc run.last * bound ≤ (years + 1) * bound = mul-le-mul_right bound (omega (arith, to-years)) in
       rw (most-is pay.kind annual, count) (omega (arith, w, m))

@@ -12,14 +12,17 @@ sum_of shares first count = record {
   hi = int_sum_over (numbers_from first count) (λ mask. (shares mask).hi);
 }
 
-pub sum-encloses : (shares : ℕ → Ends) (parts : ℕ → ℤ) (d count first : ℕ) → ((mask : ℕ) → mask < first + count → Encloses (shares mask) (parts mask) d)
+pub sum-encloses : (shares : ℕ → Ends) (parts : ℕ → ℤ) (d count first : ℕ)
+    → ((mask : ℕ) → mask < first + count → Encloses (shares mask) (parts mask) d)
     → Encloses (sum_of shares first count) (int_sum_over (numbers_from first count) parts) d
 sum-encloses shares parts d zero first each = record { low = omega (arith, ints); high = omega (arith, ints) }
 sum-encloses shares parts d (suc count) first each =
-    encloses_add (shares first) (sum_of shares (suc first) count) (sum_of shares first (suc count)) (parts first) (int_sum_over (numbers_from (suc first) count) parts) d refl refl
+    encloses_add (shares first) (sum_of shares (suc first) count) (sum_of shares first (suc count))
+    (parts first) (int_sum_over (numbers_from (suc first) count) parts) d refl refl
     (each first (omega arith)) (sum-encloses shares parts d count (suc first) (λ mask below. each mask (omega arith)))
 
-pub sum-narrow : (shares : ℕ → Ends) (widths : ℕ → ℕ) (count first : ℕ) → ((mask : ℕ) → mask < first + count → HasWidth (shares mask) (widths mask))
+pub sum-narrow : (shares : ℕ → Ends) (widths : ℕ → ℕ) (count first : ℕ)
+    → ((mask : ℕ) → mask < first + count → HasWidth (shares mask) (widths mask))
     → HasWidth (sum_of shares first count) (sum_over (numbers_from first count) widths)
 sum-narrow shares widths zero first each = record { near = omega (arith, ints) }
 sum-narrow shares widths (suc count) first each =

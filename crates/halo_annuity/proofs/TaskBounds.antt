@@ -57,7 +57,8 @@ module _ {n m : ℕ} (task : Task n m) (is : IsTask task) (group : IsGroup n tas
 
 -- with one order of the lives there is a denominator where each life of a set has survivors
 pub some-denominator : {n m : ℕ} (task : Task n m) → IsGroup n task.group.now → IsInterest task.interest.now
-    → (t alive : ℕ) → HaveSurvivorsAt task t alive → 0 < denominator (basis_of_task task declared_order) t (has_bit alive)
+    → (t alive : ℕ)
+    → HaveSurvivorsAt task t alive → 0 < denominator (basis_of_task task declared_order) t (has_bit alive)
 unfolding denominator
 some-denominator {n} {m} task group interest t alive there = positive-both 1 _ (omega arith) (positive-both _ _
     (survivors-there task group t alive there)

@@ -1,6 +1,6 @@
 -- What a valid task says of its numbers, its lives and its pay.
 use Rattle.std.proofs.Common.{◌≡◌, ◌≢◌, ℕ, zero, suc, ◌+◌, ◌-◌, ◌*◌, ◌^◌, ◌<◌, ◌≤◌, List, [], ◌∷◌, length, Bool, cond, true, false, Option, Some, None, arith, refl, ⊎_elim}
-use Rattle.std.proofs.Math.Nat.{pow-le-pow_right}
+use Rattle.std.proofs.Math.Nat.{mul-le-mul_right, pow-le-pow_right}
 use Rattle.std.proofs.lemmas.Bool.{cases_lt}
 use Rattle.std.proofs.lemmas.Nat.{mul-le}
 use Rattle.std.proofs.lemmas.List.{length-map}
@@ -57,13 +57,16 @@ cond-none may n e = rw e refl
 
 pub form-begun : (pay : PlainPay) (T t : ℕ) → (paid_at pay T t ≡ 0 → ⊥) → first_time pay.kind ≤ t
 form-begun pay T t some = ⊎_elim
-    (λ (before : t < first_time pay.kind). absurd (some (cond-none (may_pay pay.kind pay.defer T t) (payment pay (years_passed pay.kind pay.defer t)) (never-before pay.kind pay.defer T t before))))
+    (λ (before : t < first_time pay.kind). absurd (some (cond-none (may_pay pay.kind pay.defer T t)
+    (payment pay (years_passed pay.kind pay.defer t)) (never-before pay.kind pay.defer T t before))))
     (λ (begun : first_time pay.kind ≤ t). begun)
     (cases_lt t (first_time pay.kind))
 
 -- the lives of a group keep the rule of their tables
 pub group-lives : (n : ℕ) (g : PlainGroup) → IsGroup n g → AreLives (lives_of g.file g.lives)
-group-lives n g is = lives_of-AreLives g.file is.sound g.lives (All-from_get_or (λ life. HasRow g.file life.table life.age) g.lives (record { table = 0; age = 0 }) (λ i h. is.rows i (omega (arith, h, is.count))))
+group-lives n g is =
+    lives_of-AreLives g.file is.sound g.lives (All-from_get_or (λ life. HasRow g.file life.table life.age) g.lives
+    (record { table = 0; age = 0 }) (λ i h. is.rows i (omega (arith, h, is.count))))
 
 pub count-lives : (g : PlainGroup) → length (lives_of g.file g.lives) ≡ length g.lives
 count-lives g = length-map g.lives (λ life. life_of g.file life.table life.age)
@@ -108,19 +111,24 @@ pub modest-same : (m k : ℕ) (a b : Lists) → k ≡ m → a.plus ≡ b.plus �
 modest-same m k a b e plus minus h mask below = rw (plus, minus) (h mask (omega (arith, e, below)))
 
 -- somebody survives of lives of whom each has survivors
-pub some-survive : (file : TableFile) (T : ℕ) (U : ℕ → Bool) (lives : List Life) → ((i : ℕ) → i < length lives → U i ≡ true → 0 < survivors_at file (life_at lives i).table ((life_at lives i).age + T))
+pub some-survive : (file : TableFile) (T : ℕ) (U : ℕ → Bool) (lives : List Life) → ((i : ℕ)
+    → i < length lives → U i ≡ true → 0 < survivors_at file (life_at lives i).table ((life_at lives i).age + T))
     → 0 < joint_survivors T U (lives_of file lives)
 some-survive file T U [] h = omega arith
-some-survive file T U (x ∷ lives) h = positive-both _ _ (first (U 0) (h 0 (omega arith))) (some-survive file T (after_first U) lives (λ i below. h (suc i) (omega (arith, below))))
+some-survive file T U (x ∷ lives) h = positive-both _ _ (first (U 0) (h 0 (omega arith)))
+    (some-survive file T (after_first U) lives (λ i below. h (suc i) (omega (arith, below))))
   where
-    first : (is : Bool) → (is ≡ true → 0 < survivors_at file x.table (x.age + T)) → 0 < cond is (survivors_at file x.table (x.age + T)) 1
+    first : (is : Bool) → (is ≡ true → 0 < survivors_at file x.table (x.age + T))
+        → 0 < cond is (survivors_at file x.table (x.age + T)) 1
     first true k = k refl
     first false k = omega arith
 
 -- 1 is worth something with interest
-pub some-interest : (p q : ℕ → ℕ) → ((k : ℕ) → 1 ≤ q k) → (count first : ℕ) → 0 < product_over (numbers_from first count) (λ k. p k + q k)
+pub some-interest : (p q : ℕ → ℕ)
+    → ((k : ℕ) → 1 ≤ q k) → (count first : ℕ) → 0 < product_over (numbers_from first count) (λ k. p k + q k)
 some-interest p q h zero first = omega arith
-some-interest p q h (suc count) first = positive-both _ _ (omega (arith, h first)) (some-interest p q h count (suc first))
+some-interest p q h (suc count) first =
+    positive-both _ _ (omega (arith, h first)) (some-interest p q h count (suc first))
 
 module _ {n m : ℕ} (task : Task n m) where
   -- the living of a set have survivors together
@@ -139,9 +147,9 @@ module _ {n m : ℕ} (task : Task n m) where
 
 -- a pass over some of the years of a horizon makes few enough products
 pub pass-cost : (years horizon named sets : ℕ) → years ≤ horizon
-    → (named + 3) * sets * years ≤ 8 * (horizon + 1) * (named + 1) * sets
+    → 4 * sets * years ≤ 8 * (horizon + 1) * (named + 1) * sets
 pass-cost years horizon named sets h =
-    let year : (named + 3) * sets ≤ 8 * ((named + 1) * sets) = omega arith in
-    let all : (named + 3) * sets * years ≤ 8 * ((named + 1) * sets) * (horizon + 1) =
-    mul-le ((named + 3) * sets) years (8 * ((named + 1) * sets)) (horizon + 1) year (omega arith) in
+    let some : 1 * sets ≤ (named + 1) * sets = mul-le-mul_right sets (omega arith) in
+    let all : sets * years ≤ (named + 1) * sets * (horizon + 1) =
+    mul-le sets years ((named + 1) * sets) (horizon + 1) (omega (arith, some)) (omega arith) in
     omega (arith, all)

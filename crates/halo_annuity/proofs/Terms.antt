@@ -44,10 +44,12 @@ use Rattle.halo_annuity.proofs.Passes.{form-of-one}
 use Rattle.halo_annuity.proofs.RunWorths.{part-narrow, part-sized, run-sums, run-within, signed-part, times-sized}
 use Rattle.halo_annuity.proofs.TaskFacts.{count-lives, last-in, some-interest, some-nodes, some-survive, some-years}
 
-whole-is : (orders all this others interest : ℕ) → all ≡ this * others → orders * (all * interest) ≡ this * interest * (orders * others)
+whole-is : (orders all this others interest : ℕ)
+    → all ≡ this * others → orders * (all * interest) ≡ this * interest * (orders * others)
 whole-is orders all this others interest e = rw e (omega arith)
 
-module _ {n m : ℕ} (task : Task n m) (is : IsTask task) (group : IsGroup n task.group.now) (place mask : ℕ) (there : place < length task.form.now) (inside : mask < m) where
+module _ {n m : ℕ} (task : Task n m) (is : IsTask task)
+    (group : IsGroup n task.group.now) (place mask : ℕ) (there : place < length task.form.now) (inside : mask < m) where
   abbrev pub run : Run
   run = run_of (segment_at task.form.now place)
 
@@ -66,13 +68,15 @@ module _ {n m : ℕ} (task : Task n m) (is : IsTask task) (group : IsGroup n tas
   -- the coefficient is that of the form at the first time of the segment
   coefficient-of : coefficient ≡ form (pay_of task.pay.now) run.first (bits n mask)
   coefficient-of = coefficients-by-mask (pay_of task.pay.now) n run.first (segment_at task.form.now place).poly
-      (segment-is-right (pay_of task.pay.now) n task.horizon run.first place task.form.now is.form (record { within = there; from = omega arith; to = in-form.some })) mask below-all
+      (segment-is-right (pay_of task.pay.now) n task.horizon run.first place task.form.now is.form
+      (record { within = there; from = omega arith; to = in-form.some })) mask below-all
 
   coefficient-is : coefficient ≡ form (pay_of_task task) run.first (bits n mask)
   coefficient-is = coefficient-of ∙ form-of-one (pay_of task.pay.now) run.first (bits n mask)
 
   pub coefficient-small : IsSized coefficient (2 ^ 11)
-  coefficient-small = rw coefficient-of (coefficient-sized (pay_of task.pay.now) run.first (bits n mask) (omega (arith, group.few, length-bits n mask)))
+  coefficient-small = rw coefficient-of
+      (coefficient-sized (pay_of task.pay.now) run.first (bits n mask) (omega (arith, group.few, length-bits n mask)))
 
   pub times-small : times ≤ 2 ^ 11
   times-small = times-sized coefficient (2 ^ 11) coefficient-small
@@ -80,18 +84,24 @@ module _ {n m : ℕ} (task : Task n m) (is : IsTask task) (group : IsGroup n tas
   to-small : run.last ≤ task.horizon
   to-small = omega (arith, in-form.to, last-in task.pay.now.kind task.horizon)
 
-  pub held-in-form : (segment : Segment m) → segment ≡ segment_at task.form.now place → IsInForm (pay_of task.pay.now) task.horizon (record { first = segment.from; last = segment.to })
-  held-in-form segment e = subst (λ (s : Segment m). IsInForm (pay_of task.pay.now) task.horizon (record { first = s.from; last = s.to })) (sym e) in-form
+  pub held-in-form : (segment : Segment m) → segment ≡ segment_at task.form.now place
+      → IsInForm (pay_of task.pay.now) task.horizon (record { first = segment.from; last = segment.to })
+  held-in-form segment e = subst (λ (s : Segment m). IsInForm
+      (pay_of task.pay.now) task.horizon (record { first = s.from; last = s.to })) (sym e) in-form
 
-  pub held-times : (above below : ℕ) → above ≡ above_zero coefficient → below ≡ below_zero coefficient → above + below ≤ 2 ^ 11
+  pub held-times : (above below : ℕ)
+      → above ≡ above_zero coefficient → below ≡ below_zero coefficient → above + below ≤ 2 ^ 11
   held-times above below f g = omega (arith, f, g, times-small)
 
-  pub held-run : (segment : Segment m) (above below : ℕ) (worth : Ends) → segment ≡ segment_at task.form.now place → above ≡ above_zero coefficient → below ≡ below_zero coefficient
-      → EnclosesRun task (record { first = segment.from; last = segment.to }) (above + below) mask 0 (suc segment.to) worth → EnclosesRun task run times mask 0 (suc run.last) worth
+  pub held-run : (segment : Segment m) (above below : ℕ) (worth : Ends)
+      → segment ≡ segment_at task.form.now place → above ≡ above_zero coefficient → below ≡ below_zero coefficient
+      → EnclosesRun task (record { first = segment.from; last = segment.to })
+      (above + below) mask 0 (suc segment.to) worth → EnclosesRun task run times mask 0 (suc run.last) worth
   held-run segment above below worth e f g holds =
       let sum : above + below ≡ times = omega (arith, f, g) in
       subst (λ (k : ℕ). EnclosesRun task run k mask 0 (suc run.last) worth) sum
-      (subst (λ (s : Segment m). EnclosesRun task (record { first = s.from; last = s.to }) (above + below) mask 0 (suc s.to) worth) e holds)
+      (subst (λ (s : Segment m). EnclosesRun task
+      (record { first = s.from; last = s.to }) (above + below) mask 0 (suc s.to) worth) e holds)
 
   pub to-horizon : (n + 2) * run.last ≤ (n + 2) * task.horizon
   to-horizon = let h = mul-le-mul_right (n + 2) to-small in omega (arith, h)
@@ -100,18 +110,25 @@ module _ {n m : ℕ} (task : Task n m) (is : IsTask task) (group : IsGroup n tas
     -- with all lives alive at the start
     all-survive : 0 < joint_survivors 0 all_lives (basis_of_task task ties).lives
     all-survive = some-survive task.group.now.file 0 all_lives task.group.now.lives (λ i below alive.
-        let row = row-survives task.group.now.file group.sound (life_at task.group.now.lives i).table (life_at task.group.now.lives i).age (group.rows i (omega (arith, below, group.count))) in
+        let row = row-survives task.group.now.file group.sound (life_at task.group.now.lives i).table
+        (life_at task.group.now.lives i).age (group.rows i (omega (arith, below, group.count))) in
         let e : (life_at task.group.now.lives i).age + 0 ≡ (life_at task.group.now.lives i).age = omega arith in
-        subst (λ (age : ℕ). 0 < survivors_at task.group.now.file (life_at task.group.now.lives i).table age) (sym e) row)
+        subst
+        (λ (age : ℕ). 0 < survivors_at task.group.now.file (life_at task.group.now.lives i).table age) (sym e) row)
 
     split : joint_survivors 0 all_lives (basis_of_task task ties).lives
-        ≡ joint_survivors 0 (in_set (bits n mask)) (basis_of_task task ties).lives * joint_survivors 0 (outside all_lives (bits n mask)) (basis_of_task task ties).lives
-    split = survivors-split 0 all_lives (basis_of_task task ties).lives (bits n mask) (length-bits n mask ∙ sym (count-lives task.group.now ∙ group.count)) (lies-in-all (bits n mask) all_lives (λ i. refl))
+        ≡ joint_survivors 0 (in_set (bits n mask)) (basis_of_task task ties).lives
+        * joint_survivors 0 (outside all_lives (bits n mask)) (basis_of_task task ties).lives
+    split = survivors-split 0 all_lives (basis_of_task task ties).lives (bits n mask) (length-bits n mask
+        ∙ sym (count-lives task.group.now ∙ group.count)) (lies-in-all (bits n mask) all_lives (λ i. refl))
 
-    pub part-encloses : IsInterest task.interest.now → (worth result : Ends) → EnclosesSet (basis_of_task task ties) n (paid_in (pay_of_task task) run times) (bits n mask) 0 (suc run.last) worth
+    pub part-encloses : IsInterest task.interest.now → (worth result : Ends) → EnclosesSet
+        (basis_of_task task ties) n (paid_in (pay_of_task task) run times) (bits n mask) 0 (suc run.last) worth
         → (below_zero coefficient ≡ 0 → (num : ℤ) (den : ℕ) → Encloses worth num den → Encloses result num den)
-        → (0 < below_zero coefficient → (num : ℤ) (den : ℕ) → Encloses worth num den → Encloses result (pos 0 -ℤ num) den)
-        → Encloses result (run_part (basis_of_task task ties) (pay_of_task task) run (bits n mask)) (denominator (basis_of_task task ties) 0 all_lives)
+        → (0 < below_zero coefficient
+        → (num : ℤ) (den : ℕ) → Encloses worth num den → Encloses result (pos 0 -ℤ num) den)
+        → Encloses result (run_part (basis_of_task task ties) (pay_of_task task) run (bits n mask))
+        (denominator (basis_of_task task ties) 0 all_lives)
     unfolding run_part denominator
     part-encloses interest worth result holds positive negative =
         let b = basis_of_task task ties in
@@ -121,40 +138,62 @@ module _ {n m : ℕ} (task : Task n m) (is : IsTask task) (group : IsGroup n tas
         let others : ℕ = joint_survivors 0 (outside all_lives s) b.lives in
         let this : ℕ = joint_survivors 0 (in_set s) b.lives in
         let orders : ℕ = length (taken b) in
-        let interests = some-interest (λ k. (rate_of task.interest.now k).p) (λ k. (rate_of task.interest.now k).q) (λ k. (in_force_is task.interest.now interest k).q_from) 200 0 in
+        let interests = some-interest (λ k. (rate_of task.interest.now k).p)
+        (λ k. (rate_of task.interest.now k).q) (λ k. (in_force_is task.interest.now interest k).q_from) 200 0 in
         let some : 0 < this = positive-left this others (subst (λ (k : ℕ). 0 < k) split all-survive) in
         let one = holds.encloses (positive-both this (accumulated b 0) some interests) in
-        let whole : orders * (joint_survivors 0 all_lives b.lives * accumulated b 0) ≡ this * accumulated b 0 * (orders * others) = whole-is orders (joint_survivors 0 all_lives b.lives) this others (accumulated b 0) split in
-        subst (λ z. Encloses result (pos orders *ℤ (z *ℤ pos parts)) (orders * (joint_survivors 0 all_lives b.lives * accumulated b 0))) coefficient-is
-        (signed-part coefficient num parts others orders (this * accumulated b 0) (orders * (joint_survivors 0 all_lives b.lives * accumulated b 0)) result
-        (run-sums b (pay_of_task task) run times s in-form.some) whole (λ e. positive e (pos num) (this * accumulated b 0) one) (λ e. negative e (pos num) (this * accumulated b 0) one))
+        let whole : orders * (joint_survivors 0 all_lives b.lives * accumulated b 0)
+        ≡ this * accumulated b 0 * (orders * others) =
+        whole-is orders (joint_survivors 0 all_lives b.lives) this others (accumulated b 0) split in
+        subst (λ z. Encloses result (pos orders *ℤ (z *ℤ pos parts))
+        (orders * (joint_survivors 0 all_lives b.lives * accumulated b 0))) coefficient-is
+        (signed-part coefficient num parts others orders
+        (this * accumulated b 0) (orders * (joint_survivors 0 all_lives b.lives * accumulated b 0)) result
+        (run-sums b (pay_of_task task) run times s in-form.some) whole
+        (λ e. positive e (pos num) (this * accumulated b 0) one)
+        (λ e. negative e (pos num) (this * accumulated b 0) one))
 
     in-years : IsInForm (pay_of_task task) (horizon (basis_of_task task ties).lives (pay_of_task task).body) run
-    in-years = let h = in-form in record { from = h.from; some = h.some; to = subst (λ (years : ℕ). run.last ≤ last_time_of_form task.pay.now.kind years) is.horizon_is h.to }
+    in-years = let h = in-form in record {
+      from = h.from;
+      some = h.some;
+      to = subst (λ (years : ℕ). run.last ≤ last_time_of_form task.pay.now.kind years) is.horizon_is h.to;
+    }
 
-    pub term-narrow : task.pay.now.kind ≢ Insurance → (worth : Ends) → EnclosesSet (basis_of_task task ties) n (paid_in (pay_of_task task) run times) (bits n mask) 0 (suc run.last) worth
+    pub term-narrow : task.pay.now.kind ≢ Insurance → (worth : Ends) → EnclosesSet
+        (basis_of_task task ties) n (paid_in (pay_of_task task) run times) (bits n mask) 0 (suc run.last) worth
         → HasWidth worth (width_count (measures_of (basis_of_task task ties) (pay_of_task task)))
     term-narrow annual worth holds = wider worth _ _
-        (part-narrow (basis_of_task task ties) (pay_of_task task) annual refl (some-nodes (pay_of task.pay.now).body) (some-years (lives_of task.group.now.file task.group.now.lives) (pay_of task.pay.now).body)
-        n mask (count-lives task.group.now ∙ group.count) below-all run in-years coefficient coefficient-is group.few) holds.narrow
+        (part-narrow (basis_of_task task ties) (pay_of_task task) annual refl (some-nodes (pay_of task.pay.now).body)
+        (some-years (lives_of task.group.now.file task.group.now.lives) (pay_of task.pay.now).body)
+        n mask (count-lives task.group.now ∙ group.count) below-all run in-years coefficient coefficient-is group.few)
+        holds.narrow
 
-    pub term-within : task.pay.now.kind ≢ Insurance → (worth : Ends) → EnclosesSet (basis_of_task task ties) n (paid_in (pay_of_task task) run times) (bits n mask) 0 (suc run.last) worth
-        → IsWithin worth (pos 0) (pos ((measures_of (basis_of_task task ties) (pay_of_task task)).weight * most_worth task.pay.now.kind (measures_of (basis_of_task task ties) (pay_of_task task)) * fine))
+    pub term-within : task.pay.now.kind ≢ Insurance → (worth : Ends) → EnclosesSet
+        (basis_of_task task ties) n (paid_in (pay_of_task task) run times) (bits n mask) 0 (suc run.last) worth
+        → IsWithin worth (pos 0) (pos ((measures_of (basis_of_task task ties) (pay_of_task task)).weight
+        * most_worth task.pay.now.kind (measures_of (basis_of_task task ties) (pay_of_task task)) * fine))
     term-within annual worth holds =
-        let most = part-sized (basis_of_task task ties) (pay_of_task task) annual refl (some-nodes (pay_of task.pay.now).body) (some-years (lives_of task.group.now.file task.group.now.lives) (pay_of task.pay.now).body)
+        let most =
+        part-sized (basis_of_task task ties) (pay_of_task task) annual refl (some-nodes (pay_of task.pay.now).body)
+        (some-years (lives_of task.group.now.file task.group.now.lives) (pay_of task.pay.now).body)
         n mask (count-lives task.group.now ∙ group.count) below-all run in-years coefficient coefficient-is in
         let ones = mul-le-mul_right fine most in
         record { low = holds.within.low; high = omega (arith, ints, holds.within.high, ones) }
 
-    pub term-small : (worth : Ends) → EnclosesSet (basis_of_task task ties) n (paid_in (pay_of_task task) run times) (bits n mask) 0 (suc run.last) worth → IsWithin worth (pos 0) (pos (10 ^ 32))
-    term-small worth holds = run-within (pay_of_task task) run times (basis_of_task task ties) n 0 (suc run.last) (bits n mask) worth refl is.valid.vary times-small (omega (arith, to-small, is.horizon_in)) holds
+    pub term-small : (worth : Ends) → EnclosesSet (basis_of_task task ties) n (paid_in (pay_of_task task) run times)
+        (bits n mask) 0 (suc run.last) worth → IsWithin worth (pos 0) (pos (10 ^ 32))
+    term-small worth holds = run-within (pay_of_task task) run times (basis_of_task task ties) n 0
+        (suc run.last) (bits n mask) worth refl is.valid.vary times-small (omega (arith, to-small, is.horizon_in)) holds
 
 -- what is from 0 to a bound is at most the bound in size, and so is what it takes off 0
 pub both-ways : (i : Ends) (most : ℕ) → IsWithin i (pos 0) (pos most) → IsWithin i (neg_ℤ (pos most)) (pos most)
 both-ways i most h = record { low = omega (arith, ints, h.low); high = h.high }
 
-pub turned : (i r : Ends) (most : ℕ) → IsWithin i (pos 0) (pos most) → {a b : ℤ} → r.lo ≡ a -ℤ i.hi → r.hi ≡ b -ℤ i.lo → a ≡ pos 0 → b ≡ pos 0 → IsWithin r (neg_ℤ (pos most)) (pos most)
-turned i r most h lo hi none nothing = record { low = omega (arith, ints, lo, none, h.high); high = omega (arith, ints, hi, nothing, h.low) }
+pub turned : (i r : Ends) (most : ℕ) → IsWithin i (pos 0) (pos most)
+    → {a b : ℤ} → r.lo ≡ a -ℤ i.hi → r.hi ≡ b -ℤ i.lo → a ≡ pos 0 → b ≡ pos 0 → IsWithin r (neg_ℤ (pos most)) (pos most)
+turned i r most h lo hi none nothing =
+    record { low = omega (arith, ints, lo, none, h.high); high = omega (arith, ints, hi, nothing, h.low) }
 
 pub zero-encloses : (i : Ends) (d : ℕ) → i.lo ≡ pos 0 → i.hi ≡ pos 0 → Encloses i (pos 0) d
 zero-encloses i d lo hi = record { low = rw lo (omega (arith, ints)); high = rw hi (omega (arith, ints)) }

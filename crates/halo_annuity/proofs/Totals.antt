@@ -43,14 +43,18 @@ module _ (b : Basis) (s : List Bool) (paid : ℕ → ℕ) where
   backward-none : (years t : ℕ) → PaysNobody t → backward b s paid t years ≡ 0
   backward-none zero t h = refl
   backward-none (suc years) t h =
-      let now : paid t * (joint_survivors t (in_set s) b.lives * accumulated b t) ≡ paid t * joint_survivors t (in_set s) b.lives * accumulated b t = omega arith in
+      let now : paid t * (joint_survivors t (in_set s) b.lives * accumulated b t)
+      ≡ paid t * joint_survivors t (in_set s) b.lives * accumulated b t = omega arith in
       rw (now, h t (omega arith), backward-none years (suc t) (λ u from. h u (omega arith))) (omega arith)
 
-  backward-cut : (years extra t : ℕ) → PaysNobody (t + years) → backward b s paid t (years + extra) ≡ backward b s paid t years
-  backward-cut zero extra t h = let e : 0 + extra ≡ extra = omega arith in rw e (backward-none extra t (λ u from. h u (omega arith)))
+  backward-cut : (years extra t : ℕ)
+      → PaysNobody (t + years) → backward b s paid t (years + extra) ≡ backward b s paid t years
+  backward-cut zero extra t h = let e : 0 + extra ≡ extra = omega arith in
+      rw e (backward-none extra t (λ u from. h u (omega arith)))
   backward-cut (suc years) extra t h =
       let e : suc years + extra ≡ suc (years + extra) = omega arith in
-      rw e (ap (λ (n : ℕ). paid t * (joint_survivors t (in_set s) b.lives * accumulated b t) + b.q t * n) (backward-cut years extra (suc t) (λ u from. h u (omega arith))))
+      rw e (ap (λ (n : ℕ). paid t * (joint_survivors t (in_set s) b.lives * accumulated b t) + b.q t * n)
+      (backward-cut years extra (suc t) (λ u from. h u (omega arith))))
 
 no-gain : (c : ℤ) (j : ℕ) → c *ℤ pos j ≡ pos 0 → above_zero c * j ≡ 0
 no-gain (pos n) j h = omega (arith, ints, h)
@@ -64,33 +68,46 @@ no-loss (negsuc n) (suc j) h = absurd (omega (arith, ints, h))
 times-zero : (p c j : ℕ) → c * j ≡ 0 → p * c * j ≡ 0
 times-zero p c j h = let e : p * c * j ≡ p * (c * j) = omega arith in rw (e, h) (omega arith)
 
-module _ (b : Basis) (rule : AreLives b.lives) (pay : PlainPay) (plain : pay.mark ≡ None) (lists : HasShortLists pay.body) (ranks : HasPositiveRanks pay.body) (T : ℕ) where
+module _ (b : Basis) (rule : AreLives b.lives) (pay : PlainPay)
+    (plain : pay.mark ≡ None) (lists : HasShortLists pay.body) (ranks : HasPositiveRanks pay.body) (T : ℕ) where
   abbrev last : ℕ
   last = last_time_of_form pay.kind (horizon b.lives pay.body)
 
   -- a set's part up to the last time of the form is its part up to the last time of all
-  part-is : (U : ℕ → Bool) → last ≤ b.last_time → (s : List Bool) → length s ≡ length b.lives → set_part b pay T U (suc b.last_time - T) s ≡ set_part b pay T U (suc last - T) s
+  part-is : (U : ℕ → Bool) → last ≤ b.last_time → (s : List Bool)
+      → length s ≡ length b.lives → set_part b pay T U (suc b.last_time - T) s ≡ set_part b pay T U (suc last - T) s
   part-is U before s long =
-      let gains = cut (gain pay T s) (λ u from. times-zero (paid_at pay T u) (above_zero (form pay u s)) (joint_survivors u (in_set s) b.lives) (no-gain (form pay u s) (joint_survivors u (in_set s) b.lives) (ended u from))) in
-      let losses = cut (loss pay T s) (λ u from. times-zero (paid_at pay T u) (below_zero (form pay u s)) (joint_survivors u (in_set s) b.lives) (no-loss (form pay u s) (joint_survivors u (in_set s) b.lives) (ended u from))) in
+      let gains = cut (gain pay T s)
+      (λ u from. times-zero (paid_at pay T u) (above_zero (form pay u s)) (joint_survivors u (in_set s) b.lives)
+      (no-gain (form pay u s) (joint_survivors u (in_set s) b.lives) (ended u from))) in
+      let losses = cut (loss pay T s)
+      (λ u from. times-zero (paid_at pay T u) (below_zero (form pay u s)) (joint_survivors u (in_set s) b.lives)
+      (no-loss (form pay u s) (joint_survivors u (in_set s) b.lives) (ended u from))) in
       rw (gains, losses) refl
     where
       ended : (u : ℕ) → T + (suc last - T) ≤ u → form pay u s *ℤ pos (joint_survivors u (in_set s) b.lives) ≡ pos 0
       ended u from = nothing-after-horizon b rule pay plain lists ranks u (omega arith) s long
 
-      cut : (paid : ℕ → ℕ) → PaysNobody b s paid (T + (suc last - T)) → backward b s paid T (suc b.last_time - T) ≡ backward b s paid T (suc last - T)
-      cut paid h = let e : suc b.last_time - T ≡ (suc last - T) + (suc b.last_time - T - (suc last - T)) = omega arith in rw e (backward-cut b s paid (suc last - T) (suc b.last_time - T - (suc last - T)) T h)
+      cut : (paid : ℕ → ℕ) → PaysNobody b s paid (T + (suc last - T))
+          → backward b s paid T (suc b.last_time - T) ≡ backward b s paid T (suc last - T)
+      cut paid h = let e : suc b.last_time - T ≡ (suc last - T) + (suc b.last_time - T - (suc last - T)) =
+          omega arith in rw e (backward-cut b s paid (suc last - T) (suc b.last_time - T - (suc last - T)) T h)
 
 -- what a set adds to the total encloses its part, over the survivors of all living lives
-module _ (b : Basis) (pay : PlainPay) (T n years : ℕ) (lists : Lists) (values : HoldValues b pay T n T years lists) (count : length b.lives ≡ n) (alive : ℕ) where
+module _ (b : Basis) (pay : PlainPay) (T n years : ℕ)
+    (lists : Lists) (values : HoldValues b pay T n T years lists) (count : length b.lives ≡ n) (alive : ℕ) where
   abbrev whole : ℕ
   whole = joint_survivors T (has_bit alive) b.lives * accumulated b T
 
-  share-encloses : 0 < whole → (mask : ℕ) → mask < 2 ^ n → Encloses (share lists alive mask) (set_part b pay T (has_bit alive) years (bits n mask)) whole
+  share-encloses : 0 < whole → (mask : ℕ)
+      → mask < 2 ^ n → Encloses (share lists alive mask) (set_part b pay T (has_bit alive) years (bits n mask)) whole
   share-encloses some mask below = by-case (lies_in (bits n mask) (has_bit alive)) refl (within-is n mask alive below)
     where
       difference : Ends
-      difference = record { lo = (entry lists.plus mask).lo -ℤ (entry lists.minus mask).hi; hi = (entry lists.plus mask).hi -ℤ (entry lists.minus mask).lo }
+      difference = record {
+        lo = (entry lists.plus mask).lo -ℤ (entry lists.minus mask).hi;
+        hi = (entry lists.plus mask).hi -ℤ (entry lists.minus mask).lo;
+      }
 
       gains : ℕ
       gains = backward b (bits n mask) (gain pay T (bits n mask)) T years
@@ -98,25 +115,38 @@ module _ (b : Basis) (pay : PlainPay) (T n years : ℕ) (lists : Lists) (values 
       losses : ℕ
       losses = backward b (bits n mask) (loss pay T (bits n mask)) T years
 
-      by-case : (is : Bool) → lies_in (bits n mask) (has_bit alive) ≡ is → is_within mask alive ≡ lies_in (bits n mask) (has_bit alive)
-          → Encloses (cond (is_within mask alive) difference nothing) (cond (lies_in (bits n mask) (has_bit alive)) ((pos gains -ℤ pos losses) *ℤ pos (joint_survivors T (outside (has_bit alive) (bits n mask)) b.lives)) (pos 0)) whole
+      by-case : (is : Bool)
+          → lies_in (bits n mask) (has_bit alive) ≡ is → is_within mask alive ≡ lies_in (bits n mask) (has_bit alive)
+          → Encloses (cond (is_within mask alive) difference nothing)
+          (cond (lies_in (bits n mask) (has_bit alive)) ((pos gains -ℤ pos losses)
+          *ℤ pos (joint_survivors T (outside (has_bit alive) (bits n mask)) b.lives)) (pos 0)) whole
       by-case false lies same = rw (same, lies) (record { low = omega (arith, ints); high = omega (arith, ints) })
       by-case true lies same =
           let set : ℕ = joint_survivors T (in_set (bits n mask)) b.lives in
           let others : ℕ = joint_survivors T (outside (has_bit alive) (bits n mask)) b.lives in
           let split = survivors-split T (has_bit alive) b.lives (bits n mask) (length-bits n mask ∙ sym count) lies in
           let all : whole ≡ set * accumulated b T * others = rw split (omega arith) in
-          let some_set : 0 < set * accumulated b T = positive-left (set * accumulated b T) others (omega (arith, some, all)) in
-          let difference_is = encloses_sub (entry lists.plus mask) (entry lists.minus mask) difference (pos gains) (pos losses) (set * accumulated b T) refl refl ((values mask below).0.encloses some_set) ((values mask below).1.encloses some_set) in
-          rw (same, lies) (encloses_at difference (pos gains -ℤ pos losses) ((pos gains -ℤ pos losses) *ℤ pos others) (set * accumulated b T) whole others difference_is refl all)
+          let some_set : 0 < set * accumulated b T =
+          positive-left (set * accumulated b T) others (omega (arith, some, all)) in
+          let difference_is = encloses_sub (entry lists.plus mask)
+          (entry lists.minus mask) difference (pos gains) (pos losses) (set * accumulated b T) refl refl
+          ((values mask below).0.encloses some_set) ((values mask below).1.encloses some_set) in
+          rw (same, lies) (encloses_at difference (pos gains -ℤ pos losses)
+          ((pos gains -ℤ pos losses) *ℤ pos others) (set * accumulated b T) whole others difference_is refl all)
 
-  share-narrow : (mask : ℕ) → mask < 2 ^ n → HasWidth (share lists alive mask) ((n + 2) * waited (gain pay T (bits n mask)) T years + (n + 2) * waited (loss pay T (bits n mask)) T years)
+  share-narrow : (mask : ℕ) → mask < 2 ^ n → HasWidth (share lists alive mask)
+      ((n + 2) * waited (gain pay T (bits n mask)) T years + (n + 2) * waited (loss pay T (bits n mask)) T years)
   share-narrow mask below = by-case (is_within mask alive)
     where
-      by-case : (is : Bool) → HasWidth (cond is (record { lo = (entry lists.plus mask).lo -ℤ (entry lists.minus mask).hi; hi = (entry lists.plus mask).hi -ℤ (entry lists.minus mask).lo }) nothing)
+      by-case : (is : Bool) → HasWidth (cond is (record {
+        lo = (entry lists.plus mask).lo
+            -ℤ (entry lists.minus mask).hi;
+        hi = (entry lists.plus mask).hi -ℤ (entry lists.minus mask).lo;
+      }) nothing)
           ((n + 2) * waited (gain pay T (bits n mask)) T years + (n + 2) * waited (loss pay T (bits n mask)) T years)
       by-case false = record { near = omega (arith, ints) }
-      by-case true = let p = (values mask below).0.narrow in let m = (values mask below).1.narrow in record { near = omega (arith, ints, p.near, m.near) }
+      by-case true = let p = (values mask below).0.narrow in
+          let m = (values mask below).1.narrow in record { near = omega (arith, ints, p.near, m.near) }
 
 pub share-of-ties : (ties : Ties) (kind : Kind) (named : ℕ) → kind ≢ Insurance → order_share ties kind named ≡ 1
 share-of-ties ties Insurance named annual = absurd (annual refl)
@@ -126,19 +156,27 @@ share-of-ties declared_order Immediate named annual = refl
 share-of-ties all_orders Immediate named annual = refl
 
 -- the total encloses the value of the annuity
-pub total-encloses : (b : Basis) → AreLives b.lives → (pay : PlainPay) → pay.kind ≢ Insurance → pay.mark ≡ None → HasShortLists pay.body → HasPositiveRanks pay.body
-    → (T n alive : ℕ) (lists : Lists) → length b.lives ≡ n → T ≤ b.last_time → last_time_of_form pay.kind (horizon b.lives pay.body) ≤ b.last_time
+pub total-encloses : (b : Basis) → AreLives b.lives
+    → (pay : PlainPay) → pay.kind ≢ Insurance → pay.mark ≡ None → HasShortLists pay.body → HasPositiveRanks pay.body
+    → (T n alive : ℕ) (lists : Lists)
+    → length b.lives ≡ n → T ≤ b.last_time → last_time_of_form pay.kind (horizon b.lives pay.body) ≤ b.last_time
     → HoldValues b pay T n T (suc (last_time_of_form pay.kind (horizon b.lives pay.body)) - T) lists
     → 0 < joint_survivors T (has_bit alive) b.lives → 0 < accumulated b T
-    → Encloses (total_of lists (2 ^ n) alive) (pos (numerator b pay T (has_bit alive))) (denominator b T (has_bit alive))
+    → Encloses
+    (total_of lists (2 ^ n) alive) (pos (numerator b pay T (has_bit alive))) (denominator b T (has_bit alive))
 unfolding denominator
 total-encloses b rule pay annual plain short ranks T n alive lists count in_time before values some interest =
-    encloses_at (total_of lists (2 ^ n) alive) parts (pos (numerator b pay T (has_bit alive))) (joint_survivors T (has_bit alive) b.lives * accumulated b T) (length (taken b) * (joint_survivors T (has_bit alive) b.lives * accumulated b T)) (length (taken b))
-    (sum-encloses (share lists alive) (λ mask. set_part b pay T (has_bit alive) years (bits n mask)) (joint_survivors T (has_bit alive) b.lives * accumulated b T) (2 ^ n) 0
-    (λ mask below. share-encloses b pay T n years lists values count alive (positive-both _ _ some interest) mask (omega arith)))
+    encloses_at (total_of lists (2 ^ n) alive) parts
+    (pos (numerator b pay T (has_bit alive))) (joint_survivors T (has_bit alive) b.lives * accumulated b T)
+    (length (taken b) * (joint_survivors T (has_bit alive) b.lives * accumulated b T)) (length (taken b))
+    (sum-encloses (share lists alive) (λ mask. set_part b pay T (has_bit alive) years (bits n mask))
+    (joint_survivors T (has_bit alive) b.lives * accumulated b T) (2 ^ n) 0
+    (λ mask below. share-encloses b pay T n years lists values count alive
+    (positive-both _ _ some interest) mask (omega arith)))
     (annuity-by-sets b rule pay annual plain T in_time (has_bit alive)
     ∙ mul_comm (pos (length (taken b))) _
-    ∙ ap (λ z. z *ℤ pos (length (taken b))) (sets-ext (length b.lives) _ _ (λ s long. part-is b rule pay plain short ranks T (has_bit alive) before s long)
+    ∙ ap (λ z. z *ℤ pos (length (taken b)))
+    (sets-ext (length b.lives) _ _ (λ s long. part-is b rule pay plain short ranks T (has_bit alive) before s long)
     ∙ ap (λ m. int_sum_over (sets m) (set_part b pay T (has_bit alive) years)) count
     ∙ sym (int_sum_over-masks n (set_part b pay T (has_bit alive) years))))
     (omega arith)
@@ -150,14 +188,22 @@ total-encloses b rule pay annual plain short ranks T n alive lists count in_time
     parts = int_sum_over (numbers_from 0 (2 ^ n)) (λ mask. set_part b pay T (has_bit alive) years (bits n mask))
 
 -- and it is no wider than its count
-pub total-narrow : (b : Basis) (pay : PlainPay) → pay.kind ≢ Insurance → pay.amount ≡ 1 → 1 ≤ nodes pay.body → 1 ≤ horizon b.lives pay.body
+pub total-narrow : (b : Basis) (pay : PlainPay)
+    → pay.kind ≢ Insurance → pay.amount ≡ 1 → 1 ≤ nodes pay.body → 1 ≤ horizon b.lives pay.body
     → (T n alive : ℕ) (lists : Lists) → length b.lives ≡ n → n ≤ 12
     → HoldValues b pay T n T (suc (last_time_of_form pay.kind (horizon b.lives pay.body)) - T) lists
     → HasWidth (total_of lists (2 ^ n) alive) (width_count (measures_of b pay))
 total-narrow b pay annual one some_nodes some_years T n alive lists count few values =
     wider (total_of lists (2 ^ n) alive) _ _
-    (omega (arith, each, sum_over-scale masks (n + 2) (λ mask. waits mask), count-has-room n (measures_of b pay) (sum_over masks waits) few some_nodes (share-of-ties b.ties pay.kind _ annual) within))
-    (sum-narrow (share lists alive) widths (2 ^ n) 0 (λ mask below. share-narrow b pay T n years lists values count alive mask (omega arith)))
+    (omega (
+      arith,
+      each,
+      sum_over-scale masks (n + 2) (λ mask. waits mask),
+      count-has-room n
+          (measures_of b pay) (sum_over masks waits) few some_nodes (share-of-ties b.ties pay.kind _ annual) within,
+    ))
+    (sum-narrow (share lists alive) widths
+    (2 ^ n) 0 (λ mask below. share-narrow b pay T n years lists values count alive mask (omega arith)))
   where
     years : ℕ
     years = suc (last_time_of_form pay.kind (horizon b.lives pay.body)) - T
@@ -169,10 +215,12 @@ total-narrow b pay annual one some_nodes some_years T n alive lists count few va
     waits mask = waited (gain pay T (bits n mask)) T years + waited (loss pay T (bits n mask)) T years
 
     widths : ℕ → ℕ
-    widths mask = (n + 2) * waited (gain pay T (bits n mask)) T years + (n + 2) * waited (loss pay T (bits n mask)) T years
+    widths mask =
+        (n + 2) * waited (gain pay T (bits n mask)) T years + (n + 2) * waited (loss pay T (bits n mask)) T years
 
     each : sum_over masks widths ≡ sum_over masks (λ mask. (n + 2) * waits mask)
     each = sum_over-ext masks widths (λ mask. (n + 2) * waits mask) (λ mask. omega arith)
 
-    within : sum_over masks waits ≤ (horizon b.lives pay.body + 1) * horizon b.lives pay.body * (greatest_factor pay.vary (horizon b.lives pay.body) * form_weight pay (length b.lives) (horizon b.lives pay.body))
+    within : sum_over masks waits ≤ (horizon b.lives pay.body + 1) * horizon b.lives pay.body * (greatest_factor
+        pay.vary (horizon b.lives pay.body) * form_weight pay (length b.lives) (horizon b.lives pay.body))
     within = rw count (widths-together pay one n (horizon b.lives pay.body) T some_years)

@@ -53,7 +53,8 @@ module _ {n m : ℕ} (task : Task n m) (is : IsTask task) (group : IsGroup n tas
       last = omega (arith, last-in task.pay.now.kind task.horizon, is.horizon_in)
 
       encloses : (ties : Ties) →
-          Encloses (total_of lists (2 ^ n) alive) (pos (numerator (basis_of_task task ties) (pay_of_task task) t (has_bit alive)))
+          Encloses (total_of lists (2 ^ n) alive)
+          (pos (numerator (basis_of_task task ties) (pay_of_task task) t (has_bit alive)))
           (denominator (basis_of_task task ties) t (has_bit alive))
       encloses ties =
           total-encloses (basis_of_task task ties) (group-lives n task.group.now group) (pay_of_task task) annual
@@ -62,7 +63,8 @@ module _ {n m : ℕ} (task : Task n m) (is : IsTask task) (group : IsGroup n tas
           (survivors-there task group t alive there) (interest-there task interest t)
 
       narrow : (ties : Ties) →
-          HasWidth (total_of lists (2 ^ n) alive) (width_count (measures_of (basis_of_task task ties) (pay_of_task task)))
+          HasWidth
+          (total_of lists (2 ^ n) alive) (width_count (measures_of (basis_of_task task ties) (pay_of_task task)))
       narrow ties =
           total-narrow (basis_of_task task ties) (pay_of_task task) annual refl (some-nodes (pay_of task.pay.now).body)
           (some-years (lives_of task.group.now.file task.group.now.lives) (pay_of task.pay.now).body)

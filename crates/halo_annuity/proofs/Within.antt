@@ -40,7 +40,8 @@ bit-of : (mask i : ℕ) → bit_at mask i ≡ 1 → has_bit mask i ≡ true
 bit-of mask i h = grind (arith, nat_tests)
 
 module _ (n mask alive : ℕ) (below : mask < 2 ^ n) where
-  smaller : lies_in (bits n mask) (has_bit alive) ≡ true → (i : ℕ) → min (bit_at mask i) (bit_at alive i) ≡ bit_at mask i
+  smaller : lies_in (bits n mask) (has_bit alive) ≡ true
+      → (i : ℕ) → min (bit_at mask i) (bit_at alive i) ≡ bit_at mask i
   smaller lies i = ⊎_elim
       (λ (in_range : i < n). by-bit (bit_at mask i) refl in_range)
       (λ (out : n ≤ i). rw (bit_at_above mask n i below out) (omega arith))
@@ -49,7 +50,8 @@ module _ (n mask alive : ℕ) (below : mask < 2 ^ n) where
       by-bit : (x : ℕ) → bit_at mask i ≡ x → i < n → min x (bit_at alive i) ≡ x
       by-bit zero e in_range = omega arith
       by-bit (suc zero) e in_range =
-          let there = bit-is alive i (lies-all (bits n mask) (has_bit alive) lies i (sym (has_bit-bits n mask i in_range) ∙ bit-of mask i e)) in
+          let there = bit-is alive i (lies-all
+          (bits n mask) (has_bit alive) lies i (sym (has_bit-bits n mask i in_range) ∙ bit-of mask i e)) in
           rw there (omega arith)
       by-bit (suc (suc x)) e in_range = absurd (omega (arith, e, bit_at-lt mask i))
 
@@ -81,4 +83,5 @@ same-tests false m n h k = not-equal m n (λ e. absurd (cc (k e)))
     not-equal m n h = grind (arith, nat_tests)
 
 pub within-is : (n mask alive : ℕ) → mask < 2 ^ n → is_within mask alive ≡ lies_in (bits n mask) (has_bit alive)
-within-is n mask alive below = same-tests (lies_in (bits n mask) (has_bit alive)) (bit_and mask alive) mask (whole n mask alive below) (back n mask alive below)
+within-is n mask alive below = same-tests (lies_in (bits n mask) (has_bit alive))
+    (bit_and mask alive) mask (whole n mask alive below) (back n mask alive below)

@@ -12,7 +12,7 @@ use Rattle.halo_status.specs.declared.view.View.TheVariants.{Due as DueView}
 use Rattle.halo_model.specs.Order.{Ties}
 use Rattle.halo_model.specs.Value.{denominator, numerator}
 use Rattle.halo_life.specs.Lists.{Lists}
-use Rattle.halo_life.specs.PlainGroup.{survivors_of}
+use Rattle.halo_life.specs.PlainGroup.{survivors_in}
 use Rattle.halo_compile.specs.declared.task.Task.{Task}
 use Rattle.halo_annuity.specs.Bounds.{IsWithinCount}
 use Rattle.halo_annuity.specs.OfTask.{basis_of_task, last_of_task, pay_of_task}
@@ -28,10 +28,10 @@ HoldAt {n} task t lists = (ties : Ties) →
 -- the lives of a set that there are have survivors at time t: each has a row at its age then
 abbrev pub HaveSurvivorsAt : {n m : ℕ} → Task n m → ℕ → ℕ → Type 0
 HaveSurvivorsAt {n} task t alive =
-    (i : ℕ) → i < n → has_bit alive i ≡ true → 0 < survivors_of task.group.now t i
+    (i : ℕ) → i < n → has_bit alive i ≡ true → 0 < survivors_in task.group.now t i
 
--- i encloses the value at time t of the annuity of 1 of a task with the lives of a set alive, and is
--- no wider than its count
+-- i encloses the value at time t of the annuity of 1 of a task with the lives of a set alive, and
+-- is no wider than its count
 pub record EnclosesAnnuity {n m : ℕ} (task : Task n m) (t alive : ℕ) (i : Ends) : Type 0 where
   pub encloses : (ties : Ties) →
       let b = basis_of_task task ties in
@@ -39,8 +39,8 @@ pub record EnclosesAnnuity {n m : ℕ} (task : Task n m) (t alive : ℕ) (i : En
       Encloses i (pos (numerator b (pay_of_task task) t living)) (denominator b t living)
   pub narrow : IsWithinCount task i
 
--- an annuity-due, level and without deferral, pays at time t: its body exists then with the lives of
--- a set alive
+-- an annuity-due, level and without deferral, pays at time t: its body exists then with the lives
+-- of a set alive
 pub record PaysAtOnce {n m : ℕ} (task : Task n m) (t alive : ℕ) : Type 0 where
   pub due : task.pay.now.kind ≡ Due
   pub level : task.pay.now.vary ≡ Level

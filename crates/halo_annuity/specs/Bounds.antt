@@ -1,5 +1,5 @@
--- How wide an enclosure of a task's annuity of 1 may be, and between which numbers it lies, by either
--- rule for ties.
+-- How wide an enclosure of a task's annuity of 1 may be, and between which numbers it lies, by
+-- either rule for ties.
 use Rattle.std.specs.Prelude.{ℕ, ◌*◌, neg_ℤ, pos}
 use Rattle.halo_num.specs.Ends.{Ends, HasWidth, IsWithin, fine}
 use Rattle.halo_model.specs.Counts.{Measures, measures_of, most_worth, width_count}

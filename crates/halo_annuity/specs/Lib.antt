@@ -1,6 +1,7 @@
 pub mod Worth
-pub mod Growth
+pub mod SetSteps
 pub mod OfTask
 pub mod Bounds
+pub mod SetProduct
 pub mod RunWorth
 pub mod AtTime

@@ -33,16 +33,16 @@ EnclosesRun {n} task run times mask t years i = (ties : Ties) →
     let paid = paid_in (pay_of_task task) run times in
     EnclosesSet (basis_of_task task ties) n paid (bits n mask) t years i
 
--- i encloses what the coefficient of a set in the segment at a place adds to the value of the annuity
--- of 1 at time 0 with all lives alive
+-- i encloses what the coefficient of a set in the segment at a place adds to the value of the
+-- annuity of 1 at time 0 with all lives alive
 abbrev pub EnclosesPart : {n m : ℕ} → Task n m → ℕ → ℕ → Ends → Type 0
 EnclosesPart {n} task place mask i = (ties : Ties) →
     let b = basis_of_task task ties in
     let run = run_of (segment_at task.form.now place) in
     Encloses i (run_part b (pay_of_task task) run (bits n mask)) (denominator b 0 all_lives)
 
--- i encloses the discount of year t times the chance of a set of n lives, all alive at t, to survive
--- it
+-- i encloses the discount of year t times the chance of a set of n lives, all alive at t, to
+-- survive it
 pub record EnclosesDiscountedSurvival (b : Basis) (n : ℕ) (s : List Bool) (t : ℕ) (i : Ends)
     : Type 0 where
   pub encloses : 0 < joint_survivors t (in_set s) b.lives →
@@ -52,8 +52,8 @@ pub record EnclosesDiscountedSurvival (b : Basis) (n : ℕ) (s : List Bool) (t :
   pub narrow : HasWidth i (2 * n + 2)
   pub within : IsWithin i (pos 0) (pos fine)
 
--- a value of a set is carried back from time t + 1 to t: by the discount of the year times the chance
--- of the set to survive it
+-- a value of a set is carried back from time t + 1 to t: by the discount of the year times the
+-- chance of the set to survive it
 pub record CarriesYear {n m : ℕ} (task : Task n m) (t mask : ℕ) (later result : Ends) : Type 0 where
   pub chance : Ends
   pub year : (ties : Ties) →

@@ -1,4 +1,5 @@
--- Enclosures of what sets of lives add to a value, over the years backward, and how wide they may be.
+-- Enclosures of what sets of lives add to a value, over the years backward, and how wide they may
+-- be.
 use Rattle.std.specs.Prelude.{ℕ, zero, suc, ◌+◌, ◌*◌, ◌^◌, ◌<◌, Bool, List, ℤ, pos, ◌*ℤ◌, ◌≤ℤ◌}
 use Rattle.halo_num.specs.Ends.{Ends, HasWidth, IsWithin, fine}
 use Rattle.halo_num.specs.Enclosure.{Encloses}

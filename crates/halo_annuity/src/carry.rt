@@ -1,10 +1,115 @@
-// One year back.
-ghost use Rattle.std.specs.Prelude.{◌+◌, ◌^◌, ◌≤◌, pos, ◌≤ℤ◌};
+// A year back: what the values of the sets of lives are worth a year earlier.
+ghost use Rattle.std.specs.Prelude.{◌≡◌, ◌≢◌, ℕ, suc, ◌+◌, ◌*◌, ◌^◌, ◌<◌, ◌≤◌};
+ghost use Rattle.std.specs.Prelude.{cond, true, false, pos, ◌≤ℤ◌};
+ghost use Rattle.halo_sums.specs.Sums.{numbers_from, sum_over};
 ghost use Rattle.halo_num.specs.Ends.{IsWithin, fine};
-ghost use Rattle.halo_annuity.specs.Worth.{Carries};
+ghost use Rattle.halo_model.specs.Order.{Ties};
+ghost use Rattle.halo_life.specs.Lists.{entry, nothing};
+ghost use Rattle.halo_life.specs.Total.{AreModest, is_within};
+ghost use Rattle.halo_compile.specs.ValidTask.{IsTask};
+ghost use Rattle.halo_status.specs.declared.pay.Kind.TheVariants.{Insurance};
+ghost use Rattle.halo_annuity.specs.OfTask.{basis_of_task, named_of_task, pay_of_task};
+ghost use Rattle.halo_annuity.specs.SetSteps.{CarriesBy};
+ghost use Rattle.halo_annuity.specs.Worth.{Carries, HoldCarried, HoldValues};
 
+use halo_compile::Task;
+use halo_interest::LAST_TIME;
+use halo_life::Work;
 use halo_num::{Ival, Steps};
 use std::sync::ledger::Ledger;
+
+/// Carries the values of all sets back from time t + 1 to time `t`, for a valuation at any time. With n
+/// lives named by the body it makes at most 4 * 2^n products, whatever the number of lives; both values
+/// of a set with another life become 0.
+pub fn carry_back<const N: usize, const M: usize, L: Ledger>(
+    task: &Task<N, M>,
+    t: u16,
+    work: &mut Work<M>,
+    steps: &mut Steps<L>,
+)
+    requires task { IsTask task.now }
+    requires annuity { task.now.pay.now.kind ≢ Insurance }
+    requires time { t < LAST_TIME }
+    requires modest { AreModest M work.old }
+    ensures carried { (ties : Ties) (T years : ℕ) →
+        let b = basis_of_task task.now ties in
+        let pay = pay_of_task task.now in
+        HoldValues b pay T N (suc t) years work.old → HoldCarried b pay T N t years work.new }
+    ensures cost { steps.new ≤ steps.old + 4 * 2 ^ named_of_task task.now }
+{
+    // The proof sees here that the lives have rows.
+    let _start = task.group.start();
+    let named = task.pay.body.lives();
+    task.group.survivals(t, named, work, steps);
+    carry_sets(work, named, task.interest.year(t), steps);
+}
+
+// Carries both values of each set of named lives back by a year, and makes those of the others 0.
+fn carry_sets<const M: usize, L: Ledger>(
+    work: &mut Work<M>,
+    named: u16,
+    discount: Ival,
+    steps: &mut Steps<L>,
+)
+    requires few { M ≤ 4096 }
+    requires discount { IsWithin discount (pos 0) (pos fine) }
+    requires survivals { (mask : ℕ) → mask < M → is_within mask named ≡ true →
+        IsWithin (entry work.old.survivals mask) (pos 0) (pos fine) }
+    requires modest { AreModest M work.old }
+    ensures plus { (mask : ℕ) → mask < M → is_within mask named ≡ true →
+        CarriesBy discount (entry work.old.survivals mask)
+        (entry work.old.plus mask) (entry work.new.plus mask) }
+    ensures minus { (mask : ℕ) → mask < M → is_within mask named ≡ true →
+        CarriesBy discount (entry work.old.survivals mask)
+        (entry work.old.minus mask) (entry work.new.minus mask) }
+    ensures none { (mask : ℕ) → mask < M → is_within mask named ≡ false →
+        (entry work.new.plus mask ≡ nothing) × (entry work.new.minus mask ≡ nothing) }
+    ensures cost { steps.new ≤
+        steps.old + 3 * sum_over (numbers_from 0 M) (λ mask. cond (is_within mask named) 1 0) }
+{
+    for set in 0..M as u16 {
+        carry_set(work, set, named, discount, steps);
+    }
+}
+
+// Carries both values of a set back by a year: by its discount, and by the chance of the set to
+// survive it. Those of a set that is not within `named` become 0, without a product.
+fn carry_set<const M: usize, L: Ledger>(
+    work: &mut Work<M>,
+    set: u16,
+    named: u16,
+    discount: Ival,
+    steps: &mut Steps<L>,
+)
+    requires set { set < M }
+    requires discount { IsWithin discount (pos 0) (pos fine) }
+    requires survival { is_within set named ≡ true →
+        IsWithin (entry work.old.survivals set) (pos 0) (pos fine) }
+    requires plus { IsWithin (entry work.old.plus set) (pos 0) (pos (10 ^ 32)) }
+    requires minus { IsWithin (entry work.old.minus set) (pos 0) (pos (10 ^ 32)) }
+    ensures plus { is_within set named ≡ true →
+        CarriesBy discount (entry work.old.survivals set)
+        (entry work.old.plus set) (entry work.new.plus set) }
+    ensures minus { is_within set named ≡ true →
+        CarriesBy discount (entry work.old.survivals set)
+        (entry work.old.minus set) (entry work.new.minus set) }
+    ensures none { is_within set named ≡ false →
+        (entry work.new.plus set ≡ nothing) × (entry work.new.minus set ≡ nothing) }
+    ensures others { (mask : ℕ) → mask ≢ set →
+        (entry work.new.plus mask ≡ entry work.old.plus mask)
+        × (entry work.new.minus mask ≡ entry work.old.minus mask) }
+    ensures survivals { work.new.survivals ≡ work.old.survivals }
+    ensures cost { steps.new ≤ steps.old + 3 * cond (is_within set named) 1 0 }
+{
+    if set & named != set {
+        work.put(set, Ival::exact(0), Ival::exact(0));
+        return;
+    }
+    let chance = discount.mul(work.at(set), steps);
+    let plus = carried(work.plus(set), chance, steps);
+    let minus = carried(work.minus(set), chance, steps);
+    work.put(set, plus, minus);
+}
 
 /// A later value times the chance to come to it. Where the value is 0 there is nothing to multiply,
 /// and the result is exactly 0.

@@ -10,7 +10,6 @@
 mod annuities;
 mod carry;
 mod coefficient;
-mod named;
 mod one_set;
 mod payment;
 mod sets;

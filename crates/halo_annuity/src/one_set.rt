@@ -6,7 +6,7 @@ ghost use Rattle.halo_num.specs.Chance.{EnclosesChance};
 ghost use Rattle.halo_num.specs.Ends.{IsWithin, fine};
 ghost use Rattle.halo_model.specs.Order.{Ties};
 ghost use Rattle.halo_life.specs.PlainGroup.{started, surviving};
-ghost use Rattle.halo_life.specs.Products.{product_in};
+ghost use Rattle.halo_annuity.specs.SetProduct.{product_in};
 ghost use Rattle.halo_compile.specs.ValidTask.{IsTask};
 ghost use Rattle.halo_annuity.specs.OfTask.{basis_of_task};
 ghost use Rattle.halo_annuity.specs.RunWorth.{EnclosesDiscountedSurvival};
@@ -15,6 +15,7 @@ use halo_compile::Task;
 use halo_interest::LAST_TIME;
 use halo_life::Group;
 use halo_num::{Ival, ONE_IN_FINE_UNITS, Steps};
+use halo_sums::has_bit;
 use std::sync::ledger::Ledger;
 
 /// The discount of year `t` times the probability that all lives of a set, alive at time `t`, survive
@@ -71,7 +72,6 @@ fn with_life<const N: usize, L: Ledger>(
     steps: &mut Steps<L>,
 ) -> Ival
     requires life { i < N }
-    requires few { i < 16 }
     requires from { group.now.start ≤ t }
     requires time { t ≤ LAST_TIME }
     requires chance { IsWithin chance (pos 0) (pos fine) }
@@ -88,12 +88,4 @@ fn with_life<const N: usize, L: Ledger>(
     } else {
         chance
     }
-}
-
-// Whether the number `i` is in the set of a mask.
-fn has_bit(mask: u16, i: u8) -> bool
-    requires { i < 16 }
-    ensures { result ≡ has_bit mask i }
-{
-    mask >> i & 1 == 1
 }

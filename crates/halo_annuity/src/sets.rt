@@ -5,7 +5,7 @@ ghost use Rattle.halo_life.specs.Lists.{entry, nothing};
 ghost use Rattle.halo_life.specs.Total.{AreModest};
 ghost use Rattle.halo_model.specs.Backward.{above_zero, below_zero};
 ghost use Rattle.halo_poly.specs.Poly.{coefficient_at};
-ghost use Rattle.halo_annuity.specs.Growth.{GrowsBy};
+ghost use Rattle.halo_annuity.specs.SetSteps.{GrowsBy};
 
 use crate::coefficient::{GREATEST_COEFFICIENT, above_zero, below_zero, ones};
 use crate::payment::MOST_PAID;

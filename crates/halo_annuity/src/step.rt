@@ -8,7 +8,7 @@ ghost use Rattle.halo_annuity.specs.AtTime.{HoldAt};
 ghost use Rattle.halo_annuity.specs.OfTask.{basis_of_task, last_of_task, named_of_task, pay_of_task};
 ghost use Rattle.halo_annuity.specs.Worth.{HoldCarried, HoldValues};
 
-use crate::named::carry_named_sets;
+use crate::carry::carry_back;
 use crate::payment::paid_at;
 use crate::sets::{clear, pay_sets};
 use halo_compile::Task;
@@ -29,7 +29,7 @@ pub fn at_horizon<const N: usize, const M: usize>(task: &Task<N, M>, work: &mut 
 }
 
 /// The values of all sets at time `t`, by those at time t + 1. They do not depend on the time of the
-/// task's group. With n lives named by the body the counter is raised by at most (n + 3) 2^n.
+/// task's group. With n lives named by the body the counter is raised by at most 4 * 2^n.
 pub fn year_back<const N: usize, const M: usize, L: Ledger>(
     task: &Task<N, M>,
     t: u16,
@@ -41,7 +41,7 @@ pub fn year_back<const N: usize, const M: usize, L: Ledger>(
     requires time { t < task.now.horizon }
     requires values { HoldAt task.now (suc t) work.old }
     ensures values { HoldAt task.now t work.new }
-    ensures cost { steps.new ≤ steps.old + (named_of_task task.now + 3) * 2 ^ named_of_task task.now }
+    ensures cost { steps.new ≤ steps.old + 4 * 2 ^ named_of_task task.now }
 {
     match task.pay.kind {
         Kind::Immediate => year_back_immediate(task, t, work, steps),
@@ -62,10 +62,10 @@ fn year_back_due<const N: usize, const M: usize, L: Ledger>(
     requires time { t < task.now.horizon }
     requires values { HoldAt task.now (suc t) work.old }
     ensures values { HoldAt task.now t work.new }
-    ensures cost { steps.new ≤ steps.old + (named_of_task task.now + 3) * 2 ^ named_of_task task.now }
+    ensures cost { steps.new ≤ steps.old + 4 * 2 ^ named_of_task task.now }
 {
     let _start = task.group.start();
-    carry_named_sets(task, t, task.pay.body.lives(), work, steps);
+    carry_back(task, t, work, steps);
     pay(task, t, t, work);
 }
 
@@ -82,11 +82,11 @@ fn year_back_immediate<const N: usize, const M: usize, L: Ledger>(
     requires time { t < task.now.horizon }
     requires values { HoldAt task.now (suc t) work.old }
     ensures values { HoldAt task.now t work.new }
-    ensures cost { steps.new ≤ steps.old + (named_of_task task.now + 3) * 2 ^ named_of_task task.now }
+    ensures cost { steps.new ≤ steps.old + 4 * 2 ^ named_of_task task.now }
 {
     let _start = task.group.start();
     pay(task, t, t + 1, work);
-    carry_named_sets(task, t, task.pay.body.lives(), work, steps);
+    carry_back(task, t, work, steps);
 }
 
 // Adds what is paid at time `t` in a valuation at `start`.

@@ -7,7 +7,8 @@ use Rattle.halo_annuity.proofs.annuities.annuity_all.Goals as goal
 
 pub loop-back-init : goal.loop-back-init
 loop-back-init g c = record {
-  values = c.at_horizon.ensures.values (c.start-start.result + (c.saturating_sub-years.result - 0)) (omega (arith, c.saturating_sub-years.ensures));
+  values = c.at_horizon.ensures.values
+      (c.start-start.result + (c.saturating_sub-years.result - 0)) (omega (arith, c.saturating_sub-years.ensures));
   cost = omega arith;
 }
 
@@ -48,14 +49,16 @@ loop-back-preserved g c =
 
 pub returns-clause-values : goal.returns-clause-values
 returns-clause-values g c =
-    let there : c.start-start.result + (c.saturating_sub-years.result - c.loop-back.back) ≡ c.args.task.now.group.now.start =
+    let there : c.start-start.result + (c.saturating_sub-years.result - c.loop-back.back)
+    ≡ c.args.task.now.group.now.start =
     omega (arith, c.loop-back-test.false, c.start-start.ensures.value) in
     subst (λ (t : ℕ). HoldAt c.args.task.now t c.loop-back.work) there c.loop-back.invariant.values
 
 pub returns-clause-totals : goal.returns-clause-totals
 returns-clause-totals g c = λ alive there.
     let group = c.start-start.ensures.group in
-    let at : c.start-start.result + (c.saturating_sub-years.result - c.loop-back.back) ≡ c.args.task.now.group.now.start =
+    let at : c.start-start.result + (c.saturating_sub-years.result - c.loop-back.back)
+    ≡ c.args.task.now.group.now.start =
     omega (arith, c.loop-back-test.false, c.start-start.ensures.value) in
     held-annuity c.args.task.now c.requires.task group c.args.task.now.group.now.start group.time c.loop-back.work
     (subst (λ (t : ℕ). HoldAt c.args.task.now t c.loop-back.work) at c.loop-back.invariant.values)
@@ -64,7 +67,8 @@ returns-clause-totals g c = λ alive there.
 pub returns-clause-modest : goal.returns-clause-modest
 returns-clause-modest g c =
     let group = c.start-start.ensures.group in
-    let at : c.start-start.result + (c.saturating_sub-years.result - c.loop-back.back) ≡ c.args.task.now.group.now.start =
+    let at : c.start-start.result + (c.saturating_sub-years.result - c.loop-back.back)
+    ≡ c.args.task.now.group.now.start =
     omega (arith, c.loop-back-test.false, c.start-start.ensures.value) in
     held-modest c.args.task.now c.requires.task group c.args.task.now.group.now.start group.time c.loop-back.work
     (subst (λ (t : ℕ). HoldAt c.args.task.now t c.loop-back.work) at c.loop-back.invariant.values)
@@ -76,5 +80,6 @@ pub returns-clause-cost : goal.returns-clause-cost
 returns-clause-cost g c =
     let task = c.args.task.now in
     let named : ℕ = named_of_task task in
-    let few : c.loop-back.back ≤ task.horizon = omega (arith, c.saturating_sub-years.ensures, c.loop-back.auto.back-end) in
+    let few : c.loop-back.back ≤ task.horizon =
+    omega (arith, c.saturating_sub-years.ensures, c.loop-back.auto.back-end) in
     omega (arith, c.loop-back.invariant.cost, pass-cost c.loop-back.back task.horizon named (2 ^ named) few)

@@ -6,5 +6,5 @@ use Rattle.halo_annuity.proofs.annuities.annuity_all.Given as goal
 abbrev pub invariant-loop-back : goal.invariant-loop-back
 invariant-loop-back g l = record {
   values : HoldAt l.task (l.start + (l.years - l.back)) l.work;
-  cost : l.steps ≤ l.initial.steps + (named_of_task l.task + 3) * 2 ^ named_of_task l.task * l.back;
+  cost : l.steps ≤ l.initial.steps + 4 * 2 ^ named_of_task l.task * l.back;
 }

@@ -13,8 +13,10 @@ pub returns : goal.returns
 returns g c = record {
   values = λ t after ties.
       let task = c.args.task.now in
-      nothing-left (basis_of_task task ties) (pay_of_task task) g.row.N t task.horizon c.clear.new.work c.requires.annuity
-      (rw c.requires.task.horizon_is (some-years (lives_of task.group.now.file task.group.now.lives) (pay_of task.pay.now).body)) after
+      nothing-left
+      (basis_of_task task ties) (pay_of_task task) g.row.N t task.horizon c.clear.new.work c.requires.annuity
+      (rw c.requires.task.horizon_is
+      (some-years (lives_of task.group.now.file task.group.now.lives) (pay_of task.pay.now).body)) after
       (λ mask h. c.clear.ensures.plus mask (subst (λ (m : ℕ). mask < m) (sym c.requires.task.sets) h))
       (λ mask h. c.clear.ensures.minus mask (subst (λ (m : ℕ). mask < m) (sym c.requires.task.sets) h));
 }

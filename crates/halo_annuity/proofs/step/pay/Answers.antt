@@ -14,14 +14,22 @@ pub returns-then-paid-eq0 : goal.returns-then-paid-eq0
 returns-then-paid-eq0 g c = record {
   paid = λ ties years held.
       let task = c.args.task.now in
-      none-paid (basis_of_task task ties) (pay_of_task task) c.args.start g.row.N c.args.t years (suc years) c.args.work.now refl (sym c.paid_at-paid.ensures.value ∙ c.if-paid-eq0.true) held;
+      none-paid (basis_of_task task ties) (pay_of_task task) c.args.start g.row.N c.args.t years
+      (suc years) c.args.work.now refl (sym c.paid_at-paid.ensures.value ∙ c.if-paid-eq0.true) held;
 }
 
 pub at-requires : goal.at-requires
 at-requires g c =
     let task = c.args.task.now in
-    let begun : first_time task.pay.now.kind ≤ c.args.t = form-begun (pay_of_task task) c.args.start c.args.t (λ none. c.if-paid-eq0.false (c.paid_at-paid.ensures.value ∙ none)) in
-    (lit< tt, (lit< tt, time-has-segment (pay_of task.pay.now) g.row.N task.horizon c.args.t task.form.now c.requires.task.form begun c.requires.to))
+    let begun : first_time task.pay.now.kind ≤ c.args.t = form-begun
+    (pay_of_task task) c.args.start c.args.t (λ none. c.if-paid-eq0.false (c.paid_at-paid.ensures.value ∙ none)) in (
+      lit< tt,
+      (
+        lit< tt,
+        time-has-segment
+            (pay_of task.pay.now) g.row.N task.horizon c.args.t task.form.now c.requires.task.form begun c.requires.to,
+      ),
+    )
 
 pub pay_sets-requires : goal.pay_sets-requires
 pay_sets-requires g c =
@@ -36,7 +44,10 @@ pay_sets-requires g c =
           (
             c.paid_at-paid.ensures.small,
             (
-              λ mask h. rw (coefficients-by-mask (pay_of task.pay.now) g.row.N c.args.t c.at.result.now (c.at.ensures (pay_of task.pay.now) g.row.N task.horizon c.requires.task.form) mask (subst (λ (m : ℕ). mask < m) sets h)) (coefficient-sized (pay_of task.pay.now) c.args.t (bits g.row.N mask) (omega (arith, few, length-bits g.row.N mask))),
+              λ mask h. rw (coefficients-by-mask (pay_of task.pay.now) g.row.N c.args.t c.at.result.now
+                  (c.at.ensures (pay_of task.pay.now) g.row.N task.horizon c.requires.task.form) mask
+                  (subst (λ (m : ℕ). mask < m) sets h)) (coefficient-sized
+                  (pay_of task.pay.now) c.args.t (bits g.row.N mask) (omega (arith, few, length-bits g.row.N mask))),
               c.requires.modest,
             ),
           ),
@@ -49,9 +60,11 @@ returns g c = record {
   paid = λ ties years held.
       let task = c.args.task.now in
       let sets = c.requires.task.sets in
-      sets-paid (basis_of_task task ties) (pay_of_task task) c.args.start g.row.N c.args.t years (suc years) c.paid_at-paid.result c.at.result.now c.args.work.now c.pay_sets.new.work
+      sets-paid (basis_of_task task ties) (pay_of_task task) c.args.start g.row.N c.args.t years
+      (suc years) c.paid_at-paid.result c.at.result.now c.args.work.now c.pay_sets.new.work
       refl c.paid_at-paid.ensures.value
-      (coefficients-of-one (pay_of task.pay.now) g.row.N c.args.t c.at.result.now (c.at.ensures (pay_of task.pay.now) g.row.N task.horizon c.requires.task.form))
+      (coefficients-of-one (pay_of task.pay.now) g.row.N c.args.t c.at.result.now
+      (c.at.ensures (pay_of task.pay.now) g.row.N task.horizon c.requires.task.form))
       held
       (λ mask h. c.pay_sets.ensures.plus mask (subst (λ (m : ℕ). mask < m) (sym sets) h))
       (λ mask h. c.pay_sets.ensures.minus mask (subst (λ (m : ℕ). mask < m) (sym sets) h));

@@ -7,8 +7,8 @@ use Rattle.halo_annuity.proofs.Modest.{carried-modest, values-modest}
 use Rattle.halo_annuity.proofs.TaskFacts.{modest-same}
 use Rattle.halo_annuity.proofs.step.year_back_due.Goals as goal
 
-pub carry_named_sets-requires : goal.carry_named_sets-requires
-carry_named_sets-requires g c =
+pub carry_back-requires : goal.carry_back-requires
+carry_back-requires g c =
     let task = c.args.task.now in
     let in_time = c.requires.task.horizon_in in
     let last = due-last task.pay.now.kind task.horizon c.requires.due (omega (arith, c.requires.time)) in (
@@ -21,12 +21,11 @@ carry_named_sets-requires g c =
             λ e. absurd (cc (sym c.requires.due ∙ e)),
             (
               omega (arith, c.requires.time, in_time),
-              (
-                c.lives.ensures,
-                modest-same (2 ^ g.row.N) g.row.M c.args.work.now c.args.work.now c.requires.task.sets refl refl
-                    (values-modest (basis_of_task task declared_order) (pay_of_task task) refl c.requires.task.valid.vary (suc c.args.t) g.row.N c.start-start.ensures.group.few c.args.work.now (suc c.args.t) (suc (last_of_task task) - suc c.args.t)
-                    (omega (arith, c.requires.time, in_time, last)) (c.requires.values declared_order)),
-              ),
+              modest-same (2 ^ g.row.N) g.row.M c.args.work.now c.args.work.now c.requires.task.sets refl refl
+                  (values-modest (basis_of_task task declared_order) (pay_of_task task)
+                  refl c.requires.task.valid.vary (suc c.args.t) g.row.N c.start-start.ensures.group.few
+                  c.args.work.now (suc c.args.t) (suc (last_of_task task) - suc c.args.t)
+                  (omega (arith, c.requires.time, in_time, last)) (c.requires.values declared_order)),
             ),
           ),
         ),
@@ -45,9 +44,12 @@ pay-requires g c =
           c.requires.task,
           (
             omega (arith, c.requires.time, last),
-            modest-same (2 ^ g.row.N) g.row.M c.carry_named_sets.new.work c.carry_named_sets.new.work c.requires.task.sets refl refl
-                (carried-modest (basis_of_task task declared_order) (pay_of_task task) refl c.requires.task.valid.vary (suc c.args.t) g.row.N c.start-start.ensures.group.few c.carry_named_sets.new.work c.args.t (suc (last_of_task task) - suc c.args.t)
-                (omega (arith, c.requires.time, in_time, last)) (c.carry_named_sets.ensures.carried declared_order (suc c.args.t) (suc (last_of_task task) - suc c.args.t) (c.requires.values declared_order))),
+            modest-same (2 ^ g.row.N) g.row.M c.carry_back.new.work c.carry_back.new.work c.requires.task.sets refl refl
+                (carried-modest (basis_of_task task declared_order) (pay_of_task task) refl c.requires.task.valid.vary
+                (suc c.args.t) g.row.N c.start-start.ensures.group.few c.carry_back.new.work c.args.t
+                (suc (last_of_task task) - suc c.args.t)
+                (omega (arith, c.requires.time, in_time, last)) (c.carry_back.ensures.carried declared_order
+                (suc c.args.t) (suc (last_of_task task) - suc c.args.t) (c.requires.values declared_order))),
           ),
         ),
       ),
@@ -59,5 +61,8 @@ returns-clause-values g c = λ ties.
     let last = due-last task.pay.now.kind task.horizon c.requires.due (omega (arith, c.requires.time)) in
     let years : ℕ = suc (last_of_task task) - suc c.args.t in
     let more : suc years ≡ suc (last_of_task task) - c.args.t = omega (arith, last, c.requires.time) in
-    subst (λ (y : ℕ). HoldValues (basis_of_task task ties) (pay_of_task task) c.args.t g.row.N c.args.t y c.pay.new.work) more
-    (c.pay.ensures.paid ties years (due-carried (basis_of_task task ties) (pay_of_task task) g.row.N c.args.t c.carry_named_sets.new.work c.requires.due years (c.carry_named_sets.ensures.carried ties (suc c.args.t) years (c.requires.values ties))))
+    subst (λ (y : ℕ). HoldValues
+    (basis_of_task task ties) (pay_of_task task) c.args.t g.row.N c.args.t y c.pay.new.work) more
+    (c.pay.ensures.paid ties years
+    (due-carried (basis_of_task task ties) (pay_of_task task) g.row.N c.args.t c.carry_back.new.work
+    c.requires.due years (c.carry_back.ensures.carried ties (suc c.args.t) years (c.requires.values ties))))

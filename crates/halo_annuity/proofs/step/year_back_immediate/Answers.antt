@@ -21,15 +21,17 @@ pay-requires g c =
           (
             omega (arith, c.requires.time, last),
             modest-same (2 ^ g.row.N) g.row.M c.args.work.now c.args.work.now c.requires.task.sets refl refl
-                (values-modest (basis_of_task task declared_order) (pay_of_task task) refl c.requires.task.valid.vary (suc c.args.t) g.row.N c.start-start.ensures.group.few c.args.work.now (suc c.args.t) (suc (last_of_task task) - suc c.args.t)
+                (values-modest (basis_of_task task declared_order) (pay_of_task task) refl c.requires.task.valid.vary
+                (suc c.args.t) g.row.N c.start-start.ensures.group.few c.args.work.now
+                (suc c.args.t) (suc (last_of_task task) - suc c.args.t)
                 (omega (arith, c.requires.time, in_time, last)) (c.requires.values declared_order)),
           ),
         ),
       ),
     )
 
-pub carry_named_sets-requires : goal.carry_named_sets-requires
-carry_named_sets-requires g c =
+pub carry_back-requires : goal.carry_back-requires
+carry_back-requires g c =
     let task = c.args.task.now in
     let in_time = c.requires.task.horizon_in in
     let last = immediate-last task.pay.now.kind task.horizon c.requires.immediate in
@@ -37,7 +39,9 @@ carry_named_sets-requires g c =
     let next : suc c.args.t ≡ c.args.t + 1 = omega arith in
     let b = basis_of_task task declared_order in
     let carried = subst (λ (t : ℕ). HoldCarried b (pay_of_task task) c.args.t g.row.N t years c.args.work.now) next
-    (immediate-carried b (pay_of_task task) g.row.N (suc c.args.t) c.args.work.now c.requires.immediate c.args.t years (suc (last_of_task task) - suc c.args.t) (omega arith) (omega (arith, c.requires.time, last)) (c.requires.values declared_order)) in
+    (immediate-carried b (pay_of_task task) g.row.N
+    (suc c.args.t) c.args.work.now c.requires.immediate c.args.t years (suc (last_of_task task) - suc c.args.t)
+    (omega arith) (omega (arith, c.requires.time, last)) (c.requires.values declared_order)) in
     let paid = c.pay.ensures.paid declared_order years carried in (
       lit< tt,
       (
@@ -48,12 +52,10 @@ carry_named_sets-requires g c =
             λ e. absurd (cc (sym c.requires.immediate ∙ e)),
             (
               omega (arith, c.requires.time, in_time),
-              (
-                c.lives.ensures,
-                modest-same (2 ^ g.row.N) g.row.M c.pay.new.work c.pay.new.work c.requires.task.sets refl refl
-                    (values-modest b (pay_of_task task) refl c.requires.task.valid.vary c.args.t g.row.N c.start-start.ensures.group.few c.pay.new.work (c.args.t + 1) (suc years)
-                    (omega (arith, c.requires.time, in_time, last)) paid),
-              ),
+              modest-same (2 ^ g.row.N) g.row.M c.pay.new.work c.pay.new.work c.requires.task.sets refl refl
+                  (values-modest b (pay_of_task task) refl c.requires.task.valid.vary
+                  c.args.t g.row.N c.start-start.ensures.group.few c.pay.new.work (c.args.t + 1) (suc years)
+                  (omega (arith, c.requires.time, in_time, last)) paid),
             ),
           ),
         ),
@@ -68,7 +70,12 @@ returns-clause-values g c = λ ties.
     let next : suc c.args.t ≡ c.args.t + 1 = omega arith in
     let b = basis_of_task task ties in
     let carried = subst (λ (t : ℕ). HoldCarried b (pay_of_task task) c.args.t g.row.N t years c.args.work.now) next
-    (immediate-carried b (pay_of_task task) g.row.N (suc c.args.t) c.args.work.now c.requires.immediate c.args.t years (suc (last_of_task task) - suc c.args.t) (omega arith) (omega (arith, c.requires.time, last)) (c.requires.values ties)) in
-    let paid = subst (λ (t : ℕ). HoldValues b (pay_of_task task) c.args.t g.row.N t (suc years) c.pay.new.work) (sym next) (c.pay.ensures.paid ties years carried) in
-    none-paid b (pay_of_task task) c.args.t g.row.N c.args.t (suc years) (suc (last_of_task task) - c.args.t) c.carry_named_sets.new.work (omega (arith, c.requires.time, last)) (none-at-once (pay_of_task task) c.requires.immediate c.args.t)
-    (c.carry_named_sets.ensures.carried ties c.args.t (suc years) paid)
+    (immediate-carried b (pay_of_task task) g.row.N
+    (suc c.args.t) c.args.work.now c.requires.immediate c.args.t years (suc (last_of_task task) - suc c.args.t)
+    (omega arith) (omega (arith, c.requires.time, last)) (c.requires.values ties)) in
+    let paid = subst (λ (t : ℕ). HoldValues b (pay_of_task task) c.args.t g.row.N t (suc years) c.pay.new.work)
+    (sym next) (c.pay.ensures.paid ties years carried) in
+    none-paid b (pay_of_task task) c.args.t g.row.N c.args.t
+    (suc years) (suc (last_of_task task) - c.args.t) c.carry_back.new.work
+    (omega (arith, c.requires.time, last)) (none-at-once (pay_of_task task) c.requires.immediate c.args.t)
+    (c.carry_back.ensures.carried ties c.args.t (suc years) paid)

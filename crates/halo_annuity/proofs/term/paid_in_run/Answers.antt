@@ -12,7 +12,9 @@ loop-back-init g c =
     let run : Run = record { first = c.args.from; last = c.args.to } in
     record {
       worth = subst (λ (t : ℕ). EnclosesRun task run c.args.times c.args.set t 1 c.ones-value.result) (omega arith)
-          (λ ties. run-last (basis_of_task task ties) (pay_of_task task) run c.args.times g.row.N (bits g.row.N c.args.set) c.paid_at.result c.ones-value.result c.requires.run.some c.paid_at.ensures.value c.ones-value.ensures.lo c.ones-value.ensures.hi);
+          (λ ties. run-last (basis_of_task task ties)
+          (pay_of_task task) run c.args.times g.row.N (bits g.row.N c.args.set) c.paid_at.result c.ones-value.result
+          c.requires.run.some c.paid_at.ensures.value c.ones-value.ensures.lo c.ones-value.ensures.hi);
       cost = omega arith;
     }
 
@@ -32,8 +34,10 @@ paid_from-value-requires g c =
             c.requires.times,
             (
               omega (arith, c.loop-back-test.true),
-              subst (λ (t : ℕ). EnclosesRun task run c.args.times c.args.set t (c.args.to - (c.args.to - back - 1)) c.loop-back.value) here
-                  (subst (λ (y : ℕ). EnclosesRun task run c.args.times c.args.set (c.args.to - back) y c.loop-back.value) years c.loop-back.invariant.worth),
+              subst (λ (t : ℕ). EnclosesRun task run c.args.times c.args.set t
+                  (c.args.to - (c.args.to - back - 1)) c.loop-back.value) here
+                  (subst (λ (y : ℕ). EnclosesRun task run c.args.times c.args.set
+                  (c.args.to - back) y c.loop-back.value) years c.loop-back.invariant.worth),
             ),
           ),
         ),
@@ -48,8 +52,10 @@ loop-back-preserved g c =
     let here : c.args.to - back - 1 ≡ c.args.to - (back + 1) = omega arith in
     let years : suc (c.args.to - (c.args.to - back - 1)) ≡ suc (back + 1) = omega (arith, c.loop-back-test.true) in
     record {
-      worth = subst (λ (t : ℕ). EnclosesRun task run c.args.times c.args.set t (suc (back + 1)) c.paid_from-value.result) here
-          (subst (λ (y : ℕ). EnclosesRun task run c.args.times c.args.set (c.args.to - back - 1) y c.paid_from-value.result) years c.paid_from-value.ensures.worth);
+      worth = subst
+          (λ (t : ℕ). EnclosesRun task run c.args.times c.args.set t (suc (back + 1)) c.paid_from-value.result) here
+          (subst (λ (y : ℕ). EnclosesRun task run c.args.times c.args.set
+          (c.args.to - back - 1) y c.paid_from-value.result) years c.paid_from-value.ensures.worth);
       cost = omega (arith, c.paid_from-value.ensures.cost, c.loop-back.invariant.cost);
     }
 
@@ -58,6 +64,8 @@ returns-clause-worth g c =
     let task = c.args.task.now in
     let run : Run = record { first = c.args.from; last = c.args.to } in
     let here : c.args.to - c.loop-back.back ≡ 0 = omega (arith, c.loop-back-test.false, c.loop-back.auto.back-end) in
-    let years : suc c.loop-back.back ≡ suc c.args.to = omega (arith, c.loop-back-test.false, c.loop-back.auto.back-end, c.loop-back.auto) in
+    let years : suc c.loop-back.back ≡ suc c.args.to =
+    omega (arith, c.loop-back-test.false, c.loop-back.auto.back-end, c.loop-back.auto) in
     subst (λ (t : ℕ). EnclosesRun task run c.args.times c.args.set t (suc c.args.to) c.loop-back.value) here
-    (subst (λ (y : ℕ). EnclosesRun task run c.args.times c.args.set (c.args.to - c.loop-back.back) y c.loop-back.value) years c.loop-back.invariant.worth)
+    (subst (λ (y : ℕ). EnclosesRun task run c.args.times c.args.set (c.args.to - c.loop-back.back) y c.loop-back.value)
+    years c.loop-back.invariant.worth)

@@ -8,10 +8,12 @@ pub returns-clause-encloses : goal.returns-clause-encloses
 returns-clause-encloses c = λ num den above below e.
     let low : to_z w128 (of_z w128 c.fine_units.result) ≡ c.fine_units.result = search (rules, to_z-of_z) in
     let high : to_z w128 (of_z w128 c.fine_units-2.result) ≡ c.fine_units-2.result = search (rules, to_z-of_z) in
-    c.clamp.ensures.encloses _ den e (rw (low, c.fine_units.ensures) (ones-below num den c.args.least below)) (rw (high, c.fine_units-2.ensures) (ones-above num den c.args.most above))
+    c.clamp.ensures.encloses _ den e (rw (low, c.fine_units.ensures) (ones-below num den c.args.least below))
+    (rw (high, c.fine_units-2.ensures) (ones-above num den c.args.most above))
 
 pub returns-clause-narrow : goal.returns-clause-narrow
-returns-clause-narrow c = λ w h. record { near = omega (arith, ints, clamps, c.clamp.ensures.lo, c.clamp.ensures.hi, h.near) }
+returns-clause-narrow c =
+    λ w h. record { near = omega (arith, ints, clamps, c.clamp.ensures.lo, c.clamp.ensures.hi, h.near) }
 
 pub returns-clause-within : goal.returns-clause-within
 returns-clause-within c =

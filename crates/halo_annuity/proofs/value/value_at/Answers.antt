@@ -30,7 +30,8 @@ between-requires-clause-meets_most g c =
     let group = c.start-start.ensures.group in
     let interest = c.fractions-fractions.ensures.interest in
     let b = basis_of_task task declared_order in
-    let held = same-annuity task c.args.t c.args.alive c.total-total.result (total_of c.args.work.now g.row.M c.args.alive)
+    let held =
+    same-annuity task c.args.t c.args.alive c.total-total.result (total_of c.args.work.now g.row.M c.args.alive)
     c.total-total.ensures.lo c.total-total.ensures.hi
     (held-annuity task r.task group c.args.t r.time c.args.work.now r.values r.annuity interest c.args.alive r.alive) in
     meets-above c.total-total.result (numerator b (pay_of_task task) c.args.t (has_bit c.args.alive))
@@ -46,7 +47,8 @@ between-requires-clause-meets_least g c =
     let group = c.start-start.ensures.group in
     let interest = c.fractions-fractions.ensures.interest in
     let b = basis_of_task task declared_order in
-    let held = same-annuity task c.args.t c.args.alive c.total-total.result (total_of c.args.work.now g.row.M c.args.alive)
+    let held =
+    same-annuity task c.args.t c.args.alive c.total-total.result (total_of c.args.work.now g.row.M c.args.alive)
     c.total-total.ensures.lo c.total-total.ensures.hi
     (held-annuity task r.task group c.args.t r.time c.args.work.now r.values r.annuity interest c.args.alive r.alive) in
     meets-below c.total-total.result (numerator b (pay_of_task task) c.args.t (has_bit c.args.alive))
@@ -60,7 +62,8 @@ returns-clause-encloses g c =
     let r = c.requires in
     let task = c.args.task.now in
     let group = c.start-start.ensures.group in
-    let held = same-annuity task c.args.t c.args.alive c.total-total.result (total_of c.args.work.now g.row.M c.args.alive)
+    let held =
+    same-annuity task c.args.t c.args.alive c.total-total.result (total_of c.args.work.now g.row.M c.args.alive)
     c.total-total.ensures.lo c.total-total.ensures.hi
     (held-annuity task r.task group c.args.t r.time c.args.work.now r.values r.annuity
     c.fractions-fractions.ensures.interest c.args.alive r.alive) in
@@ -80,8 +83,10 @@ returns-clause-encloses g c =
 pub returns-clause-within : goal.returns-clause-within
 returns-clause-within g c = λ ties.
     let task = c.args.task.now in
-    let most : c.most_worth.result ≡ most_worth task.pay.now.kind (measures_of (basis_of_task task ties) (pay_of_task task)) =
-    c.most_worth.ensures.value ∙ sym (most-of-task task c.requires.task c.start-start.ensures.group c.requires.annuity ties) in
+    let most : c.most_worth.result
+    ≡ most_worth task.pay.now.kind (measures_of (basis_of_task task ties) (pay_of_task task)) =
+    c.most_worth.ensures.value
+    ∙ sym (most-of-task task c.requires.task c.start-start.ensures.group c.requires.annuity ties) in
     let high = ap (λ (n : ℕ). n * fine) most in
     record {
       low = omega (arith, ints, c.between.ensures.within.low);
