@@ -17,6 +17,9 @@ mod step;
 mod term;
 mod value;
 
+#[cfg(test)]
+mod tests;
+
 pub use annuities::{annuity, annuity_all};
 pub use step::{at_horizon, year_back};
 pub use term::term_value;

@@ -1,0 +1,31 @@
+-- Three lives have eight sets, and the parts of the task belong together.
+use Rattle.std.proofs.Common.{arith, lit<, refl}
+use Rattle.halo_annuity.proofs.tests.assert_all_sets.Goals as goal
+
+pub compile-requires : goal.compile-requires
+compile-requires g c = (
+  lit< tt,
+  (
+    record { lives = 3; some = omega arith; few = omega arith; is = refl },
+    (c.horizon-horizon.ensures.some, c.horizon-horizon.ensures.few),
+  ),
+)
+
+pub annuity_all-requires : goal.annuity_all-requires
+annuity_all-requires g c = (
+  lit< tt,
+  (
+    lit< tt,
+    (
+      record {
+        valid = c.requires.valid;
+        lives = c.requires.lives;
+        sets = refl;
+        horizon_is = rw c.new-group.ensures c.horizon-horizon.ensures.years;
+        horizon_in = c.horizon-horizon.ensures.few;
+        form = c.in_ok-form.ensures.form 3 refl;
+      },
+      c.requires.annuity,
+    ),
+  ),
+)
