@@ -1,5 +1,5 @@
 -- Sets of named lives: how many there are, and that no other set is worth anything.
-use Rattle.std.proofs.Common.{◌≡◌, ℕ, zero, suc, ◌+◌, ◌*◌, ◌^◌, ◌<◌, ◌≤◌, List, [], ◌∷◌, length, map, Bool, cond, true, false, ◌&&◌, nat_eq, subst, None, pos, arith, refl, ap, sym, ◌∙◌}
+use Rattle.std.proofs.Common.{◌≡◌, ℕ, zero, suc, ◌+◌, ◌*◌, ◌^◌, ◌<◌, ◌≤◌, List, [], ◌∷◌, length, map, Bool, cond, true, false, ◌&&◌, nat_eq, None, pos, arith, refl, ap, sym, ◌∙◌}
 use Rattle.std.specs.Prelude.{bit_and}
 use Rattle.halo_num.specs.Ends.{Ends}
 use Rattle.std.proofs.lemmas.Bool.Decides.{nat_tests}

@@ -16,7 +16,7 @@ use Rattle.halo_model.specs.Value.{denominator}
 use Rattle.halo_compile.specs.Form.{run_of, segment_at}
 use Rattle.halo_compile.specs.declared.task.Task.{Task}
 use Rattle.halo_annuity.specs.OfTask.{basis_of_task, pay_of_task}
-use Rattle.halo_annuity.specs.Worth.{Carries, EnclosesSet}
+use Rattle.halo_annuity.specs.Worth.{EnclosesSet}
 
 -- the run of the times from one to another
 abbrev pub run_from : ℕ → ℕ → Run
@@ -51,11 +51,3 @@ pub record EnclosesDiscountedSurvival (b : Basis) (n : ℕ) (s : List Bool) (t :
       ((b.p t + b.q t) * joint_survivors t (in_set s) b.lives)
   pub narrow : HasWidth i (2 * n + 2)
   pub within : IsWithin i (pos 0) (pos fine)
-
--- a value of a set is carried back from time t + 1 to t: by the discount of the year times the
--- chance of the set to survive it
-pub record CarriesYear {n m : ℕ} (task : Task n m) (t mask : ℕ) (later result : Ends) : Type 0 where
-  pub chance : Ends
-  pub year : (ties : Ties) →
-      EnclosesDiscountedSurvival (basis_of_task task ties) n (bits n mask) t chance
-  pub carries : Carries later chance result

@@ -48,10 +48,10 @@ pub fn annuity_all<const N: usize, const M: usize, L: Ledger>(
     }
 }
 
-/// The value of an annuity of 1 at the start of the task's group, with the lives alive that the group
-/// says: no wider than its count, and from 0 to the most that it can be worth. Where an annuity-due,
-/// level and without deferral, pays at the start, it is at least 1. The counter is raised as by
-/// `annuity_all`.
+/// The value of an annuity of 1 at the start of the task's group, with the lives alive that the
+/// group says: no wider than its count, and from 0 to the most that it can be worth. Where an
+/// annuity-due, level and without deferral, pays at the start, it is at least 1. The counter is
+/// raised as by `annuity_all`.
 pub fn annuity<const N: usize, const M: usize, L: Ledger>(
     task: &Task<N, M>,
     work: &mut Work<M>,

@@ -28,8 +28,8 @@ pub fn at_horizon<const N: usize, const M: usize>(task: &Task<N, M>, work: &mut 
     clear(work);
 }
 
-/// The values of all sets at time `t`, by those at time t + 1. They do not depend on the time of the
-/// task's group. With n lives named by the body the counter is raised by at most 4 * 2^n.
+/// The values of all sets at time `t`, by those at time t + 1. They do not depend on the time of
+/// the task's group. With n lives named by the body the counter is raised by at most 4 * 2^n.
 pub fn year_back<const N: usize, const M: usize, L: Ledger>(
     task: &Task<N, M>,
     t: u16,
@@ -97,7 +97,8 @@ fn pay<const N: usize, const M: usize>(task: &Task<N, M>, start: u16, t: u16, wo
     ensures paid { (ties : Ties) (years : ℕ) →
         let b = basis_of_task task.now ties in
         let pay = pay_of_task task.now in
-        HoldCarried b pay start N t years work.old → HoldValues b pay start N t (suc years) work.new }
+        HoldCarried b pay start N t years work.old →
+        HoldValues b pay start N t (suc years) work.new }
 {
     let _start = task.group.start();
     let paid = paid_at(task.pay, start, t);

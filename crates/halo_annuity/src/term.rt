@@ -15,9 +15,9 @@ use halo_compile::{Form, Segment, Task};
 use halo_num::{Ival, Steps};
 use std::sync::ledger::Ledger;
 
-/// What the coefficient of a set of lives in one segment of the form adds to the value of an annuity
-/// of 1 at time 0 with all lives alive, whatever the time of the task's group and the lives alive
-/// then.
+/// What the coefficient of a set of lives in one segment of the form adds to the value of an
+/// annuity of 1 at time 0 with all lives alive, whatever the time of the task's group and the lives
+/// alive then.
 ///
 /// It is no wider than the count of the annuity, and in size at most the weight of the form times
 /// the most that the annuity can be worth; it may be below 0. The counter is raised by at most
@@ -60,8 +60,8 @@ fn segment_of<const M: usize>(form: &Form<M>, place: usize) -> &Segment<M>
     &form.segments()[place]
 }
 
-// What so many times the payments of an annuity at the times `from` to `to` are worth at time 0, each
-// made if all lives of a set are alive then.
+// What so many times the payments of an annuity at the times `from` to `to` are worth at time 0,
+// each made if all lives of a set are alive then.
 fn paid_in_run<const N: usize, const M: usize, L: Ledger>(
     task: &Task<N, M>,
     from: u16,

@@ -16,8 +16,8 @@ use halo_life::Work;
 use halo_num::{Ival, ONE_IN_FINE_UNITS};
 use halo_status::{Kind, Vary, View};
 
-/// The value at time `t` of an annuity of 1 with the lives of a set alive, each of which has a row at
-/// its age then: of the payments from `t` on, or after `t` where it is immediate.
+/// The value at time `t` of an annuity of 1 with the lives of a set alive, each of which has a row
+/// at its age then: of the payments from `t` on, or after `t` where it is immediate.
 ///
 /// It is no wider than its count, and from 0 to the most that the annuity can be worth. Where an
 /// annuity-due, level and without deferral, pays at `t`, it is at least 1.

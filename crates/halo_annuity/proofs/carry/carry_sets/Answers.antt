@@ -1,4 +1,4 @@
-use Rattle.std.proofs.Common.{◌≡◌, ℕ, ◌+◌, ◌*◌, cond, true, false, arith, ◌∙◌}
+use Rattle.std.proofs.Common.{◌≡◌, ℕ, cond, true, false, arith, ◌∙◌}
 use Rattle.halo_sums.specs.Sums.{numbers_from, sum_over}
 use Rattle.halo_life.specs.Lists.{entry, nothing}
 use Rattle.halo_life.specs.Total.{is_within}
