@@ -1,63 +1,30 @@
 -- The value for a set, apart by the sign of its coefficients.
-use Rattle.std.proofs.Common.{◌≡◌, ℕ, zero, suc, ◌+◌, ◌*◌, ◌-◌, ◌<◌, ◌≤◌, arith, refl, ap, sym, ◌∙◌, List, [], ◌∷◌, length, get_or, Bool, true, false, cond, ◌&&◌, nat_eq, nat_le, nat_lt, ℤ, pos, negsuc, ◌+ℤ◌, ◌*ℤ◌, ◌-ℤ◌, ⊎_elim}
+use Rattle.std.proofs.Common.{◌≡◌, ℕ, zero, suc, ◌+◌, ◌*◌, ◌-◌, ◌<◌, ◌≤◌, arith, refl, ap, ◌∙◌, List, [], ◌∷◌, length, Bool, true, false, cond, ◌&&◌, nat_le, nat_lt, ℤ, pos, negsuc, ◌+ℤ◌, ◌*ℤ◌, ◌-ℤ◌, ⊎_elim}
+use Rattle.std.proofs.Math.Path.{fun_ext}
 use Rattle.std.proofs.lemmas.Bool.Decides.{nat_tests}
 use Rattle.std.proofs.lemmas.Int.{ints}
-use Rattle.std.proofs.lemmas.List.Sums.{position_or_len_is}
-use Rattle.halo_sums.specs.Sums.{numbers_from}
+use Rattle.halo_sums.specs.Sums.{int_sum_over, sum_over}
 use Rattle.halo_sums.specs.Sets.{in_set}
 use Rattle.halo_sums.proofs.Integers.{mul_add, mul_sub, sub_mul}
-use Rattle.halo_sums.proofs.Numbers.{int_sum_over-numbers_ext}
 use Rattle.halo_status.specs.Pay.{PlainPay}
-use Rattle.halo_model.specs.Basis.{Basis, accumulated}
+use Rattle.halo_model.specs.Backward.{above_zero, below_zero}
+use Rattle.halo_model.specs.Basis.{Basis, accumulated, taken}
 use Rattle.halo_model.specs.Chance.{IsValidInsurance, asked}
 use Rattle.halo_model.specs.Coefficient.{form}
-use Rattle.halo_model.specs.Expectation.{all_there, all_there_at_leaving, looked_at, survivors_if, whole_if}
+use Rattle.halo_model.specs.EvenTies.{first_leaving, lives_in}
 use Rattle.halo_model.specs.Horizon.{horizon}
-use Rattle.halo_model.specs.Life.{AreLives, PlainLife, after_first, leavers_by}
-use Rattle.halo_model.specs.SetLaws.{StopLeaving}
+use Rattle.halo_model.specs.Life.{AreLives}
 use Rattle.halo_model.specs.Order.{rank_in}
 use Rattle.halo_model.specs.Outcome.{joint_survivors}
 use Rattle.halo_model.specs.Payment.{payment}
-use Rattle.halo_model.specs.SetValue.{SomeEvents, can_fall_on_term, due_for_year, ending_weight, leaving_weight, value_over}
-use Rattle.halo_insure.specs.declared.year_back.Due.{Due}
-use Rattle.halo_model.specs.Backward.{above_zero, below_zero}
-use Rattle.halo_insure.specs.Dues.{AreCounted, NothingAfter, SetValueIsWorth, coefficient_before, due_of}
-use Rattle.halo_insure.specs.OneSet.{due_in, worth}
-use Rattle.halo_insure.specs.YearOfSet.{leaving_of}
-use Rattle.halo_insure.proofs.Declared.{declared, leaving-of-is}
-use Rattle.halo_insure.proofs.OneMoreLife.{leaving-splits}
-
--- the rank of a life in the declared order is its number
-get-number : (n first k d : ℕ) → k < n → get_or (numbers_from first n) k d ≡ first + k
-get-number zero first k d h = absurd (omega arith)
-get-number (suc n) first zero d h = omega arith
-get-number (suc n) first (suc k) d h = omega (arith, get-number n (suc first) k d (omega arith))
-
-length-numbers : (n first : ℕ) → length (numbers_from first n) ≡ n
-length-numbers zero first = refl
-length-numbers (suc n) first = ap suc (length-numbers n (suc first))
-
-own-rank : (n i : ℕ) → i < n → rank_in (numbers_from 0 n) i ≡ i
-own-rank n i h = position_or_len_is (λ j. nat_eq i j) (numbers_from 0 n) i 0 (omega (arith, length-numbers n 0))
-    (λ k below. let e = get-number n 0 k 0 (omega arith) in let other : nat_eq i (get_or (numbers_from 0 n) k 0) ≡ false = grind (arith, nat_tests, e) in other)
-    (λ within. let e = get-number n 0 i 0 h in let same : nat_eq i (get_or (numbers_from 0 n) i 0) ≡ true = grind (arith, nat_tests, e) in same)
-
--- only the times of the lives that there are count
-there-times : (lives : List PlainLife) (times others : ℕ → ℕ) (T : ℕ) (S : ℕ → Bool) (s : List Bool) → ((i : ℕ) → i < length lives → times i ≡ others i) → all_there times T S lives s ≡ all_there others T S lives s
-there-times [] times others T S s h = refl
-there-times (x ∷ lives) times others T S [] h = refl
-there-times (x ∷ lives) times others T S (true ∷ s) h = ap (λ t. survivors_if (S 0) x t *ℤ all_there (after_first times) T (after_first S) lives s) (h 0 (omega arith))
-    ∙ ap (λ z. survivors_if (S 0) x (others 0) *ℤ z) (there-times lives (after_first times) (after_first others) T (after_first S) s (λ i within. h (suc i) (omega arith)))
-there-times (x ∷ lives) times others T S (false ∷ s) h = ap (λ z. whole_if (S 0) x T *ℤ z) (there-times lives (after_first times) (after_first others) T (after_first S) s (λ i within. h (suc i) (omega arith)))
-
-leaving-times : (lives : List PlainLife) (a : ℕ) (causes : ℕ → Bool) (k : ℕ) (times others : ℕ → ℕ) (T : ℕ) (S : ℕ → Bool) (s : List Bool) → ((i : ℕ) → i < length lives → times i ≡ others i) → all_there_at_leaving a causes k times T S lives s ≡ all_there_at_leaving a causes k others T S lives s
-leaving-times [] a causes k times others T S s h = refl
-leaving-times (x ∷ lives) a causes k times others T S [] h = refl
-leaving-times (x ∷ lives) zero causes k times others T S (true ∷ s) h = ap (λ z. pos (leavers_by causes x k) *ℤ z) (there-times lives (after_first times) (after_first others) T (after_first S) s (λ i within. h (suc i) (omega arith)))
-leaving-times (x ∷ lives) zero causes k times others T S (false ∷ s) h = ap (λ z. pos 0 *ℤ z) (there-times lives (after_first times) (after_first others) T (after_first S) s (λ i within. h (suc i) (omega arith)))
-leaving-times (x ∷ lives) (suc a) causes k times others T S (true ∷ s) h = ap (λ t. survivors_if (S 0) x t *ℤ all_there_at_leaving a causes k (after_first times) T (after_first S) lives s) (h 0 (omega arith))
-    ∙ ap (λ z. survivors_if (S 0) x (others 0) *ℤ z) (leaving-times lives a causes k (after_first times) (after_first others) T (after_first S) s (λ i within. h (suc i) (omega arith)))
-leaving-times (x ∷ lives) (suc a) causes k times others T S (false ∷ s) h = ap (λ z. whole_if (S 0) x T *ℤ z) (leaving-times lives a causes k (after_first times) (after_first others) T (after_first S) s (λ i within. h (suc i) (omega arith)))
+use Rattle.halo_model.specs.SetValue.{SomeEvents, due_for_year, ending_weight, leaving_weight, set_value, value_over}
+use Rattle.halo_model.proofs.LeavingsOfASet.{leavings-of-a-set}
+use Rattle.halo_insure.specs.declared.due.Due.{Due}
+use Rattle.halo_insure.specs.Dues.{NothingAfter, SetValueIsWorth, coefficient_before, due_of, ends_count}
+use Rattle.halo_insure.specs.Leavings.{counted_numbers, counts}
+use Rattle.halo_insure.specs.OneSet.{worth_of_dues}
+use Rattle.halo_insure.proofs.Horizon.{nothing-is-due-after}
+use Rattle.halo_insure.proofs.Nobody.{nobody-leaves, nobody-survives}
 
 -- an integer is its part above 0 less its part below
 signs : (z : ℤ) → z ≡ pos (above_zero z) -ℤ pos (below_zero z)
@@ -114,9 +81,9 @@ module _ (b : Basis) (due : ℕ → ℤ) where
   up-to (suc years) more k none = let e : suc years + more ≡ suc (years + more) = omega arith in ap (value_over b due k) e
       ∙ ap (λ z. pos (b.q k) *ℤ (due k *ℤ pos (accumulated b (suc k)) +ℤ z)) (up-to years more (suc k) (λ j from. none j (omega arith)))
 
-  by-signs : (leaving living : ℕ → ℕ) (plus minus : List Due) (years k : ℕ)
-      → ((j : ℕ) → k ≤ j → j < k + years → due j ≡ pos ((due_in plus j).on_leaving * leaving j + (due_in plus j).at_end * living (suc j)) -ℤ pos ((due_in minus j).on_leaving * leaving j + (due_in minus j).at_end * living (suc j)))
-      → value_over b due k years ≡ pos (worth b leaving living plus k years) -ℤ pos (worth b leaving living minus k years)
+  by-signs : (leaving living : ℕ → ℕ) (plus minus : ℕ → Due) (years k : ℕ)
+      → ((j : ℕ) → k ≤ j → j < k + years → due j ≡ pos ((plus j).on_leaving * leaving j + (plus j).at_end * living (suc j)) -ℤ pos ((minus j).on_leaving * leaving j + (minus j).at_end * living (suc j)))
+      → value_over b due k years ≡ pos (worth_of_dues b leaving living plus k years) -ℤ pos (worth_of_dues b leaving living minus k years)
   by-signs leaving living plus minus zero k h = omega (arith, ints)
   by-signs leaving living plus minus (suc years) k h = rw (h k (omega arith) (omega arith), by-signs leaving living plus minus years (suc k) (λ j from below. h j (omega arith) (omega arith)))
       (regroup (b.q k) (accumulated b (suc k)) _ _ _ _)
@@ -127,35 +94,19 @@ module _ (b : Basis) (due : ℕ → ℤ) where
           sums : (x y w v : ℕ) → pos x -ℤ pos y +ℤ (pos w -ℤ pos v) ≡ pos (x + w) -ℤ pos (y + v)
           sums x y w v = omega (arith, ints)
 
-module _ (b : Basis) (pay : PlainPay) (is : IsValidInsurance pay) (events : SomeEvents) (s counted : List Bool) (len : length s ≡ length b.lives) (count : length counted ≡ length b.lives) (marks : AreCounted pay events counted) (after : NothingAfter b pay s) (rule : AreLives b.lives) (stop : StopLeaving b.lives) where
-  abbrev rank : ℕ → ℕ
-  rank = rank_in (numbers_from 0 (length b.lives))
-
-  abbrev leaving : ℕ → ℕ
-  leaving k = leaving_of (asked pay.causes) k b.lives s counted
+module _ (b : Basis) (rule : AreLives b.lives) (pay : PlainPay) (is : IsValidInsurance pay) (events : SomeEvents) (s : List Bool) (len : length s ≡ length b.lives) where
+  abbrev H : ℕ
+  H = horizon b.lives pay.body
 
   abbrev living : ℕ → ℕ
   living k = joint_survivors k (in_set s) b.lives
 
-  abbrev H : ℕ
-  H = horizon b.lives pay.body
-
-  looked : (k a i : ℕ) → a < length b.lives → i < length b.lives → looked_at rank a k i ≡ declared k a i
-  looked k a i here there = let e = own-rank (length b.lives) a here in let f = own-rank (length b.lives) i there in rw (e, f)
-
-  -- the weight of the leavings in the declared order
-  pub leaving-weight-is : (k : ℕ) → leaving_weight pay events rank b.lives k s ≡ pos (leaving k)
-  leaving-weight-is k = int_sum_over-numbers_ext (length b.lives) 0 _ _ (λ a from within.
-      ap (λ c. cond c (all_there_at_leaving a (asked pay.causes) k (looked_at rank a k) k (in_set s) b.lives s) (pos 0)) (sym (marks a (omega (arith, within, count))))
-      ∙ ap (λ z. cond (in_set counted a) z (pos 0)) (leaving-times b.lives a (asked pay.causes) k (looked_at rank a k) (declared k a) k (in_set s) s (λ i there. looked k a i (omega (arith, within)) there)))
-      ∙ leaving-of-is (asked pay.causes) k b.lives s counted len count
-
-  abbrev due : ℕ → ℤ
-  due k = due_for_year pay events rank b.lives k s
+  after : NothingAfter b pay s
+  after = nothing-is-due-after b rule pay is s len
 
   -- a coefficient from the horizon on counts nothing
   end-lost : (k : ℕ) → (form pay k s -ℤ form pay (suc k) s) *ℤ ending_weight pay events b.lives k s ≡ (form pay k s -ℤ coefficient_before pay H (suc k) s) *ℤ ending_weight pay events b.lives k s
-  end-lost k = each (nat_lt (suc k) H) refl (events.terms (suc k) && can_fall_on_term pay (suc k))
+  end-lost k = each (nat_lt (suc k) H) refl (ends_count pay events (suc k))
     where
       each : (before : Bool) → nat_lt (suc k) H ≡ before → (ends : Bool) → (form pay k s -ℤ form pay (suc k) s) *ℤ cond ends (pos (living (suc k))) (pos 0) ≡ (form pay k s -ℤ cond before (form pay (suc k) s) (pos 0)) *ℤ cond ends (pos (living (suc k))) (pos 0)
       each true e ends = refl
@@ -165,54 +116,108 @@ module _ (b : Basis) (pay : PlainPay) (is : IsValidInsurance pay) (events : Some
           (λ gone. rw gone (both-none (form pay k s -ℤ form pay (suc k) s) (form pay k s -ℤ pos 0)))
           (after (suc k) (grind (arith, nat_tests)))
 
-  due-is : (k : ℕ) → due k ≡ pos ((due_of above_zero pay events H s k).on_leaving * leaving k + (due_of above_zero pay events H s k).at_end * living (suc k)) -ℤ pos ((due_of below_zero pay events H s k).on_leaving * leaving k + (due_of below_zero pay events H s k).at_end * living (suc k))
-  due-is k = ap (λ z. cond (nat_le pay.defer k) (pos (payment pay (k - pay.defer)) *ℤ (form pay k s *ℤ leaving_weight pay events rank b.lives k s +ℤ z)) (pos 0)) (end-lost k)
-      ∙ ap (λ z. cond (nat_le pay.defer k) (pos (payment pay (k - pay.defer)) *ℤ (form pay k s *ℤ z +ℤ (form pay k s -ℤ coefficient_before pay H (suc k) s) *ℤ ending_weight pay events b.lives k s)) (pos 0)) (leaving-weight-is k)
-      ∙ year-signed (nat_le pay.defer k) (events.terms (suc k) && can_fall_on_term pay (suc k)) (payment pay (k - pay.defer)) (leaving k) (living (suc k)) (form pay k s) (form pay k s -ℤ coefficient_before pay H (suc k) s)
+  -- in one order of the lives
+  module _ (rank : ℕ → ℕ) where
+    abbrev leaving : ℕ → ℕ
+    leaving k = first_leaving (counted_numbers b pay events k) rank (lives_in (length b.lives) (in_set s))
 
-  -- from the horizon on nothing is due
-  due-after : (k : ℕ) → H ≤ k → due k ≡ pos 0
-  due-after k past = ap (λ z. cond (nat_le pay.defer k) (pos (payment pay (k - pay.defer)) *ℤ (form pay k s *ℤ leaving_weight pay events rank b.lives k s +ℤ z)) (pos 0)) (end-lost k)
-      ∙ ap (λ z. cond (nat_le pay.defer k) (pos (payment pay (k - pay.defer)) *ℤ (form pay k s *ℤ z +ℤ (form pay k s -ℤ coefficient_before pay H (suc k) s) *ℤ ending_weight pay events b.lives k s)) (pos 0)) (leaving-weight-is k)
-      ∙ ap (λ z. cond (nat_le pay.defer k) (pos (payment pay (k - pay.defer)) *ℤ z) (pos 0)) nothing
-      ∙ paid (nat_le pay.defer k) (payment pay (k - pay.defer))
+    leaving-weight-is : (k : ℕ) → leaving_weight pay events rank b.lives k s ≡ pos (leaving k)
+    leaving-weight-is k = leavings-of-a-set b.lives k (counts pay events) (asked pay.causes) rank s len
+
+    abbrev due : ℕ → ℤ
+    due k = due_for_year pay events rank b.lives k s
+
+    due-is : (k : ℕ) → due k ≡ pos ((due_of above_zero pay events H s k).on_leaving * leaving k + (due_of above_zero pay events H s k).at_end * living (suc k)) -ℤ pos ((due_of below_zero pay events H s k).on_leaving * leaving k + (due_of below_zero pay events H s k).at_end * living (suc k))
+    due-is k = ap (λ z. cond (nat_le pay.defer k) (pos (payment pay (k - pay.defer)) *ℤ (form pay k s *ℤ leaving_weight pay events rank b.lives k s +ℤ z)) (pos 0)) (end-lost k)
+        ∙ ap (λ z. cond (nat_le pay.defer k) (pos (payment pay (k - pay.defer)) *ℤ (form pay k s *ℤ z +ℤ (form pay k s -ℤ coefficient_before pay H (suc k) s) *ℤ ending_weight pay events b.lives k s)) (pos 0)) (leaving-weight-is k)
+        ∙ year-signed (nat_le pay.defer k) (ends_count pay events (suc k)) (payment pay (k - pay.defer)) (leaving k) (living (suc k)) (form pay k s) (form pay k s -ℤ coefficient_before pay H (suc k) s)
+
+    -- from the horizon on nothing is due
+    due-after : (k : ℕ) → H ≤ k → due k ≡ pos 0
+    due-after k past = ap (λ z. cond (nat_le pay.defer k) (pos (payment pay (k - pay.defer)) *ℤ (form pay k s *ℤ leaving_weight pay events rank b.lives k s +ℤ z)) (pos 0)) (end-lost k)
+        ∙ ap (λ z. cond (nat_le pay.defer k) (pos (payment pay (k - pay.defer)) *ℤ (form pay k s *ℤ z +ℤ (form pay k s -ℤ coefficient_before pay H (suc k) s) *ℤ ending_weight pay events b.lives k s)) (pos 0)) (leaving-weight-is k)
+        ∙ ap (λ z. cond (nat_le pay.defer k) (pos (payment pay (k - pay.defer)) *ℤ z) (pos 0)) nothing
+        ∙ paid (nat_le pay.defer k) (payment pay (k - pay.defer))
+      where
+        paid : (due : Bool) (p : ℕ) → cond due (pos p *ℤ pos 0) (pos 0) ≡ pos 0
+        paid true p = omega (arith, ints)
+        paid false p = refl
+
+        no-times : (z w : ℤ) → pos 0 *ℤ z +ℤ (pos 0 -ℤ pos 0) *ℤ w ≡ pos 0
+        no-times z w = omega (arith, ints)
+
+        times-no : (z w : ℤ) → z *ℤ pos 0 +ℤ w *ℤ pos 0 ≡ pos 0
+        times-no z w = omega (arith, ints)
+
+        ends-none : (ends : Bool) (n : ℕ) → n ≡ 0 → cond ends (pos n) (pos 0) ≡ pos 0
+        ends-none true n e = ap pos e
+        ends-none false n e = refl
+
+        beyond : nat_lt (suc k) H ≡ false
+        beyond = grind (arith, nat_tests, past)
+
+        silent : form pay k s ≡ pos 0 → form pay k s *ℤ pos (leaving k) +ℤ (form pay k s -ℤ coefficient_before pay H (suc k) s) *ℤ ending_weight pay events b.lives k s ≡ pos 0
+        silent none = rw (none, beyond) (no-times (pos (leaving k)) (ending_weight pay events b.lives k s))
+
+        nothing : form pay k s *ℤ pos (leaving k) +ℤ (form pay k s -ℤ coefficient_before pay H (suc k) s) *ℤ ending_weight pay events b.lives k s ≡ pos 0
+        nothing = ⊎_elim
+            silent
+            (λ gone.
+            let l : leaving k ≡ 0 = nobody-leaves b rule pay events s len k gone rank in
+            let a : living (suc k) ≡ 0 = nobody-survives b rule pay events s len k gone in
+            let e : ending_weight pay events b.lives k s ≡ pos 0 = ends-none (ends_count pay events (suc k)) (living (suc k)) a in
+            rw (l, e) (times-no (form pay k s) (form pay k s -ℤ coefficient_before pay H (suc k) s)))
+            (after k past)
+
+    -- what the set is worth in this order
+    value-is : (T : ℕ) → H ≤ b.last_time → set_value b pay events rank T s
+        ≡ pos (worth_of_dues b leaving living (due_of above_zero pay events H s) T (H - T)) -ℤ pos (worth_of_dues b leaving living (due_of below_zero pay events H s) T (H - T))
+    value-is T in_time =
+        let years : b.last_time - T ≡ (H - T) + (b.last_time - T - (H - T)) = omega arith in
+        ap (value_over b due T) years
+        ∙ up-to b due (H - T) (b.last_time - T - (H - T)) T (λ j from. due-after j (omega arith))
+        ∙ by-signs b due leaving living (due_of above_zero pay events H s) (due_of below_zero pay events H s) (H - T) T (λ j from below. due-is j)
+
+-- the worth of what is due is a sum over parts of the leavings and the survivors
+module _ (b : Basis) (due : ℕ → Due) where
+  worth-none : (years k : ℕ) → worth_of_dues b (λ j. 0) (λ j. 0) due k years ≡ 0
+  worth-none zero k = refl
+  worth-none (suc years) k = rw (worth-none years (suc k)) (omega arith)
+
+  worth-add : (leaving more alive others : ℕ → ℕ) (years k : ℕ)
+      → worth_of_dues b leaving alive due k years + worth_of_dues b more others due k years ≡ worth_of_dues b (λ j. leaving j + more j) (λ j. alive j + others j) due k years
+  worth-add leaving more alive others zero k = refl
+  worth-add leaving more alive others (suc years) k = rw (← (worth-add leaving more alive others years (suc k))) (omega arith)
+
+module _ (b : Basis) (plus minus : ℕ → Due) (leaving : List ℕ → ℕ → ℕ) (alive : ℕ → ℕ) (k years : ℕ) where
+  -- over some orders
+  over-orders : (orders : List (List ℕ)) (value : List ℕ → ℤ)
+      → ((order : List ℕ) → value order ≡ pos (worth_of_dues b (leaving order) alive plus k years) -ℤ pos (worth_of_dues b (leaving order) alive minus k years))
+      → int_sum_over orders value
+      ≡ pos (worth_of_dues b (λ j. sum_over orders (λ order. leaving order j)) (λ j. length orders * alive j) plus k years) -ℤ pos (worth_of_dues b (λ j. sum_over orders (λ order. leaving order j)) (λ j. length orders * alive j) minus k years)
+  over-orders [] value each = rw (none plus, none minus) refl
     where
-      paid : (due : Bool) (p : ℕ) → cond due (pos p *ℤ pos 0) (pos 0) ≡ pos 0
-      paid true p = omega (arith, ints)
-      paid false p = refl
+      none : (due : ℕ → Due) → worth_of_dues b (λ j. 0) (λ j. 0 * alive j) due k years ≡ 0
+      none due = ap (λ (a : ℕ → ℕ). worth_of_dues b (λ j. 0) a due k years) (fun_ext (λ j. zero-times (alive j))) ∙ worth-none b due years k
+        where
+          zero-times : (n : ℕ) → 0 * n ≡ 0
+          zero-times n = omega arith
+  over-orders (order ∷ orders) value each = rw (each order, over-orders orders value each) (join _ _ _ _ _ _ (more plus) (more minus))
+    where
+      one-more : (n a : ℕ) → a + n * a ≡ suc n * a
+      one-more n a = omega arith
 
-      no-times : (z w : ℤ) → pos 0 *ℤ z +ℤ (pos 0 -ℤ pos 0) *ℤ w ≡ pos 0
-      no-times z w = omega (arith, ints)
+      more : (due : ℕ → Due) → worth_of_dues b (leaving order) alive due k years + worth_of_dues b (λ j. sum_over orders (λ o. leaving o j)) (λ j. length orders * alive j) due k years
+          ≡ worth_of_dues b (λ j. leaving order j + sum_over orders (λ o. leaving o j)) (λ j. suc (length orders) * alive j) due k years
+      more due = worth-add b due (leaving order) (λ j. sum_over orders (λ o. leaving o j)) alive (λ j. length orders * alive j) years k
+          ∙ ap (λ (a : ℕ → ℕ). worth_of_dues b (λ j. leaving order j + sum_over orders (λ o. leaving o j)) a due k years) (fun_ext (λ j. one-more (length orders) (alive j)))
 
-      times-no : (z w : ℤ) → z *ℤ pos 0 +ℤ w *ℤ pos 0 ≡ pos 0
-      times-no z w = omega (arith, ints)
-
-      ended : (ends : Bool) (n : ℕ) → n ≡ 0 → cond ends (pos n) (pos 0) ≡ pos 0
-      ended true n e = ap pos e
-      ended false n e = refl
-
-      beyond : nat_lt (suc k) H ≡ false
-      beyond = grind (arith, nat_tests, past)
-
-      silent : form pay k s ≡ pos 0 → form pay k s *ℤ pos (leaving k) +ℤ (form pay k s -ℤ coefficient_before pay H (suc k) s) *ℤ ending_weight pay events b.lives k s ≡ pos 0
-      silent none = rw (none, beyond) (no-times (pos (leaving k)) (ending_weight pay events b.lives k s))
-
-      nothing : form pay k s *ℤ pos (leaving k) +ℤ (form pay k s -ℤ coefficient_before pay H (suc k) s) *ℤ ending_weight pay events b.lives k s ≡ pos 0
-      nothing = ⊎_elim
-          silent
-          (λ gone.
-          let split = leaving-splits (asked pay.causes) k b.lives rule stop s counted len count in
-          let l : leaving k ≡ 0 = omega (arith, split, gone) in
-          let a : living (suc k) ≡ 0 = omega (arith, split, gone) in
-          let e : ending_weight pay events b.lives k s ≡ pos 0 = ended (events.terms (suc k) && can_fall_on_term pay (suc k)) (living (suc k)) a in
-          rw (l, e) (times-no (form pay k s) (form pay k s -ℤ coefficient_before pay H (suc k) s)))
-          (after k past)
+      join : (x y u v w z : ℕ) → x + u ≡ w → y + v ≡ z → (pos x -ℤ pos y) +ℤ (pos u -ℤ pos v) ≡ pos w -ℤ pos z
+      join x y u v w z e f = omega (arith, ints, e, f)
 
 pub set-value-is-worth : SetValueIsWorth
-set-value-is-worth b rule stop pay is events T started in_time s counted len count marks after plus minus above_is below_is =
+set-value-is-worth b rule pay is events T in_time s len =
     let H : ℕ = horizon b.lives pay.body in
-    let years : b.last_time - T ≡ (H - T) + (b.last_time - H) = omega arith in
-    ap (value_over b (due b pay is events s counted len count marks after rule stop) T) years
-    ∙ up-to b (due b pay is events s counted len count marks after rule stop) (H - T) (b.last_time - H) T (λ j from. due-after b pay is events s counted len count marks after rule stop j (omega arith))
-    ∙ by-signs b (due b pay is events s counted len count marks after rule stop) (λ k. leaving_of (asked pay.causes) k b.lives s counted) (λ k. joint_survivors k (in_set s) b.lives) plus minus (H - T) T
-    (λ j from below. rw (above_is j (omega arith), below_is j (omega arith)) (due-is b pay is events s counted len count marks after rule stop j))
+    over-orders b (due_of above_zero pay events H s) (due_of below_zero pay events H s)
+    (λ order k. first_leaving (counted_numbers b pay events k) (rank_in order) (lives_in (length b.lives) (in_set s))) (λ k. joint_survivors k (in_set s) b.lives) T (H - T)
+    (taken b) (λ order. set_value b pay events (rank_in order) T s) (λ order. value-is b rule pay is events s len (rank_in order) T in_time)

@@ -1,139 +1,184 @@
--- The sum over the sets of the lives alive encloses the value of an insurance, within its count.
-use Rattle.std.proofs.Common.{◌≡◌, ℕ, zero, suc, ◌+◌, ◌*◌, ◌-◌, ◌≤◌, arith, refl, ap, ◌∙◌, List, [], ◌∷◌, length, Bool, true, false, ℤ, pos, ◌+ℤ◌, ◌*ℤ◌, ◌-ℤ◌, ◌≤ℤ◌}
+-- The total over the sets of the lives alive encloses the value of an insurance, within its count.
+use Rattle.std.proofs.Common.{◌≡◌, ℕ, zero, suc, ◌+◌, ◌*◌, ◌-◌, ◌^◌, ◌<◌, ◌≤◌, arith, refl, ap, sym, ◌∙◌, List, [], ◌∷◌, length, map, flat_map, Bool, true, false, cond, ℤ, pos, ◌+ℤ◌, ◌*ℤ◌, ◌-ℤ◌}
 use Rattle.std.proofs.lemmas.Int.{ints}
+use Rattle.halo_sums.specs.Masks.{bits, has_bit}
 use Rattle.halo_sums.specs.Sums.{int_sum_over, numbers_from, sum_over}
-use Rattle.halo_sums.specs.Sets.{in_set, size_of, subsets}
-use Rattle.halo_sums.proofs.Sets.{int_sum_over-subsets_with, int_sum_over-subsets_without}
-use Rattle.halo_sums.proofs.Sums.{sum_over-map}
+use Rattle.halo_sums.specs.Sets.{in_set, sets, size_of, subsets}
+use Rattle.halo_sums.proofs.IntSums.{int_sum_over-ext, int_sum_over-none, int_sum_over-pos, int_sum_over-scale_right, int_sum_over-swap}
+use Rattle.halo_sums.proofs.Integers.{pos_injective}
+use Rattle.halo_sums.proofs.Masks.{has_bit-bits, int_sum_over-masks}
+use Rattle.halo_sums.proofs.SetMasks.{length-bits}
+use Rattle.halo_sums.proofs.Sets.{int_sum_over-sets, int_sum_over-subsets_with, int_sum_over-subsets_without}
 use Rattle.halo_num.specs.Enclosure.{Encloses}
-use Rattle.halo_num.specs.Ends.{Ends}
+use Rattle.halo_num.specs.Ends.{Ends, HasWidth}
 use Rattle.halo_num.proofs.Enclosures.{encloses_add, encloses_at, encloses_sub}
 use Rattle.halo_status.specs.Pay.{PlainPay}
-use Rattle.halo_model.specs.Basis.{Basis, accumulated}
+use Rattle.halo_model.specs.Backward.{above_zero, below_zero, lies_in, outside}
+use Rattle.halo_model.specs.Basis.{Basis, accumulated, taken}
 use Rattle.halo_model.specs.Chance.{IsValidInsurance}
 use Rattle.halo_model.specs.Horizon.{horizon}
-use Rattle.halo_model.specs.Life.{AreLives, PlainLife}
-use Rattle.halo_model.specs.Order.{orders_taken, rank_in}
-use Rattle.halo_model.specs.Outcome.{joint_survivors}
-use Rattle.halo_model.specs.SetLaws.{StopLeaving}
+use Rattle.halo_model.specs.Life.{AreLives, PlainLife, after_first}
+use Rattle.halo_model.specs.Order.{rank_in}
+use Rattle.halo_model.specs.Outcome.{Outcome, joint_survivors, outcomes, ways}
 use Rattle.halo_model.specs.SetValue.{SomeEvents, all_events, set_value}
 use Rattle.halo_model.specs.Value.{denominator, numerator}
-use Rattle.halo_model.proofs.Apart.{LiesIn, LiesIn-length}
+use Rattle.halo_model.proofs.Backward.{survivors-split}
 use Rattle.halo_model.proofs.InsuranceBySets.{insurance-by-sets}
-use Rattle.halo_insure.specs.declared.year_back.Due.{Due}
-use Rattle.halo_model.specs.Backward.{above_zero, below_zero, outside}
-use Rattle.halo_insure.specs.Dues.{AreCounted, AreDues, due_in_all}
+use Rattle.halo_life.specs.Lists.{Lists, entry, nothing}
+use Rattle.halo_life.specs.Total.{is_within, share, total_of}
+use Rattle.halo_insure.proofs.Within.{within-is}
+use Rattle.halo_insure.specs.Dues.{due_by_both, due_of, set_worth}
 use Rattle.halo_insure.specs.OneSet.{most_due}
-use Rattle.halo_insure.specs.Total.{EnclosesSets, SetsEncloseValue, total_of}
-use Rattle.halo_insure.proofs.Counted.{both-ways, sets-within-count}
-use Rattle.halo_insure.proofs.Horizon.{nothing-is-due-after}
+use Rattle.halo_insure.specs.Total.{HoldDues, SetsEncloseValue}
+use Rattle.halo_insure.proofs.Counted.{sets-within-count}
 use Rattle.halo_insure.proofs.Signs.{set-value-is-worth}
 
--- the survivors of a set and of the others alive are those of all alive
-joint-split : (T : ℕ) (lives : List PlainLife) (u s : List Bool) → length u ≡ length lives → LiesIn u s → joint_survivors T (in_set s) lives * joint_survivors T (outside (in_set u) s) lives ≡ joint_survivors T (in_set u) lives
-joint-split T [] u s len lies = refl
-joint-split T (x ∷ lives) [] s len lies = absurd (omega (arith, len))
-joint-split T (x ∷ lives) (true ∷ u) [] len lies = absurd lies
-joint-split T (x ∷ lives) (false ∷ u) [] len lies = absurd lies
-joint-split T (x ∷ lives) (false ∷ u) (true ∷ s) len lies = absurd lies
-joint-split T (x ∷ lives) (true ∷ u) (true ∷ s) len lies = omega (arith, ap (λ (n : ℕ). x.survivors T * n) (joint-split T lives u s (omega (arith, len)) lies))
-joint-split T (x ∷ lives) (true ∷ u) (false ∷ s) len lies = omega (arith, ap (λ (n : ℕ). x.survivors T * n) (joint-split T lives u s (omega (arith, len)) lies))
-joint-split T (x ∷ lives) (false ∷ u) (false ∷ s) len lies = omega (arith, joint-split T lives u s (omega (arith, len)) lies)
+-- only the lives that there are count
+joint-agree : (T : ℕ) (lives : List PlainLife) (S U : ℕ → Bool) → ((i : ℕ) → i < length lives → S i ≡ U i) → joint_survivors T S lives ≡ joint_survivors T U lives
+joint-agree T [] S U h = refl
+joint-agree T (x ∷ lives) S U h = rw (h 0 (omega arith), joint-agree T lives (after_first S) (after_first U) (λ i below. h (suc i) (omega arith))) refl
 
-abbrev ends_of : (List Bool → ℤ) → (List Bool → ℤ) → List (List Bool) → Ends
-ends_of lo hi some = record { lo = int_sum_over some lo; hi = int_sum_over some hi }
+outcomes-agree : (T : ℕ) (lives : List PlainLife) (S U : ℕ → Bool) → ((i : ℕ) → i < length lives → S i ≡ U i) → outcomes T S lives ≡ outcomes T U lives
+outcomes-agree T [] S U h = refl
+outcomes-agree T (x ∷ lives) S U h =
+    ap (λ (rest : List Outcome). flat_map (λ way. map (λ o. way ∷ o) rest) (ways T (S 0) x)) (outcomes-agree T lives (after_first S) (after_first U) (λ i below. h (suc i) (omega arith)))
+    ∙ ap (λ (there : Bool). flat_map (λ way. map (λ o. way ∷ o) (outcomes T (after_first U) lives)) (ways T there x)) (h 0 (omega arith))
 
--- fractions with one denominator, summed over the subsets
-encloses-sum : (u : List Bool) (lo hi x : List Bool → ℤ) (d : ℕ) → ((s : List Bool) → LiesIn u s → Encloses (record { lo = lo s; hi = hi s }) (x s) d) → Encloses (ends_of lo hi (subsets u)) (int_sum_over (subsets u) x) d
-encloses-sum [] lo hi x d h = let e = h [] tt in rw (alone (lo []), alone (hi []), alone (x [])) e
+lies-agree : (s : List Bool) (S U : ℕ → Bool) → ((i : ℕ) → i < length s → S i ≡ U i) → lies_in s S ≡ lies_in s U
+lies-agree [] S U h = refl
+lies-agree (false ∷ s) S U h = lies-agree s (after_first S) (after_first U) (λ i below. h (suc i) (omega arith))
+lies-agree (true ∷ s) S U h = rw (h 0 (omega arith), lies-agree s (after_first S) (after_first U) (λ i below. h (suc i) (omega arith))) refl
+
+numerator-agree : (b : Basis) (pay : PlainPay) (T : ℕ) (S U : ℕ → Bool) → ((i : ℕ) → i < length b.lives → S i ≡ U i) → numerator b pay T S ≡ numerator b pay T U
+unfolding numerator
+numerator-agree b pay T S U h = rw (outcomes-agree T b.lives S U h) refl
+
+denominator-agree : (b : Basis) (T : ℕ) (S U : ℕ → Bool) → ((i : ℕ) → i < length b.lives → S i ≡ U i) → denominator b T S ≡ denominator b T U
+unfolding denominator
+denominator-agree b T S U h = ap (λ (j : ℕ). length (taken b) * (j * accumulated b T)) (joint-agree T b.lives S U h)
+
+-- a sum over the subsets of a set is one over all sets of which those that lie in it count
+subsets-as-sets : (u : List Bool) (f : List Bool → ℤ) → int_sum_over (sets (length u)) (λ s. cond (lies_in s (in_set u)) (f s) (pos 0)) ≡ int_sum_over (subsets u) f
+subsets-as-sets [] f = refl
+subsets-as-sets (true ∷ u) f = int_sum_over-sets (length u) (λ s. cond (lies_in s (in_set (true ∷ u))) (f s) (pos 0))
+    ∙ ap (λ z. z +ℤ int_sum_over (sets (length u)) (λ s. cond (lies_in s (in_set u)) (f (true ∷ s)) (pos 0))) (subsets-as-sets u (λ s. f (false ∷ s)))
+    ∙ ap (λ z. int_sum_over (subsets u) (λ s. f (false ∷ s)) +ℤ z) (subsets-as-sets u (λ s. f (true ∷ s)))
+    ∙ sym (int_sum_over-subsets_with u f)
+subsets-as-sets (false ∷ u) f = int_sum_over-sets (length u) (λ s. cond (lies_in s (in_set (false ∷ u))) (f s) (pos 0))
+    ∙ ap (λ z. int_sum_over (sets (length u)) (λ s. cond (lies_in s (in_set u)) (f (false ∷ s)) (pos 0)) +ℤ z) (int_sum_over-none (sets (length u)))
+    ∙ alone _
+    ∙ subsets-as-sets u (λ s. f (false ∷ s))
+    ∙ sym (int_sum_over-subsets_without u f)
   where
     alone : (z : ℤ) → z +ℤ pos 0 ≡ z
     alone z = omega (arith, ints)
-encloses-sum (true ∷ u) lo hi x d h = rw (int_sum_over-subsets_with u lo, int_sum_over-subsets_with u hi, int_sum_over-subsets_with u x)
-    (encloses_add (ends_of (λ s. lo (false ∷ s)) (λ s. hi (false ∷ s)) (subsets u)) (ends_of (λ s. lo (true ∷ s)) (λ s. hi (true ∷ s)) (subsets u)) _ _ _ d refl refl
-    (encloses-sum u (λ s. lo (false ∷ s)) (λ s. hi (false ∷ s)) (λ s. x (false ∷ s)) d (λ s lies. h (false ∷ s) lies))
-    (encloses-sum u (λ s. lo (true ∷ s)) (λ s. hi (true ∷ s)) (λ s. x (true ∷ s)) d (λ s lies. h (true ∷ s) lies)))
-encloses-sum (false ∷ u) lo hi x d h = rw (int_sum_over-subsets_without u lo, int_sum_over-subsets_without u hi, int_sum_over-subsets_without u x)
-    (encloses-sum u (λ s. lo (false ∷ s)) (λ s. hi (false ∷ s)) (λ s. x (false ∷ s)) d (λ s lies. h (false ∷ s) lies))
 
--- and their widths
-narrow-sum : (u : List Bool) (lo hi : List Bool → ℤ) (w : List Bool → ℕ) → ((s : List Bool) → LiesIn u s → hi s ≤ℤ (lo s +ℤ pos (w s))) → int_sum_over (subsets u) hi ≤ℤ (int_sum_over (subsets u) lo +ℤ pos (sum_over (subsets u) w))
-narrow-sum [] lo hi w h = omega (arith, ints, h [] tt)
-narrow-sum (true ∷ u) lo hi w h = omega (
-  arith,
-  ints,
-  int_sum_over-subsets_with u lo,
-  int_sum_over-subsets_with u hi,
-  both-ways (subsets u) w,
-  narrow-sum u (λ s. lo (false ∷ s)) (λ s. hi (false ∷ s)) (λ s. w (false ∷ s)) (λ s lies. h (false ∷ s) lies),
-  narrow-sum u (λ s. lo (true ∷ s)) (λ s. hi (true ∷ s)) (λ s. w (true ∷ s)) (λ s lies. h (true ∷ s) lies),
-)
-narrow-sum (false ∷ u) lo hi w h = omega (
-  arith,
-  ints,
-  int_sum_over-subsets_without u lo,
-  int_sum_over-subsets_without u hi,
-  sum_over-map (λ s. false ∷ s) (subsets u) w,
-  narrow-sum u (λ s. lo (false ∷ s)) (λ s. hi (false ∷ s)) (λ s. w (false ∷ s)) (λ s lies. h (false ∷ s) lies),
-)
+-- sums of enclosures over masks
+abbrev sum_of : (ℕ → Ends) → ℕ → ℕ → Ends
+sum_of shares first count = record {
+  lo = int_sum_over (numbers_from first count) (λ mask. (shares mask).lo);
+  hi = int_sum_over (numbers_from first count) (λ mask. (shares mask).hi);
+}
 
--- what two lists hold is due in all
-most-is : (pay : PlainPay) (events : SomeEvents) (years : ℕ) (s : List Bool) (plus minus : List Due) → AreDues above_zero pay events years s plus → AreDues below_zero pay events years s minus → (more k : ℕ) → k + more ≤ years
-    → most_due plus k more + most_due minus k more ≡ due_in_all pay events years s k more
-most-is pay events years s plus minus above_is below_is zero k within = refl
-most-is pay events years s plus minus above_is below_is (suc more) k within = rw (above_is k (omega arith), below_is k (omega arith)) (omega (arith, most-is pay events years s plus minus above_is below_is more (suc k) (omega arith)))
+sum-encloses : (shares : ℕ → Ends) (parts : ℕ → ℤ) (d count first : ℕ) → ((mask : ℕ) → mask < first + count → Encloses (shares mask) (parts mask) d)
+    → Encloses (sum_of shares first count) (int_sum_over (numbers_from first count) parts) d
+sum-encloses shares parts d zero first each = record { low = omega (arith, ints); high = omega (arith, ints) }
+sum-encloses shares parts d (suc count) first each =
+    encloses_add (shares first) (sum_of shares (suc first) count) (sum_of shares first (suc count)) (parts first) (int_sum_over (numbers_from (suc first) count) parts) d refl refl
+    (each first (omega arith)) (sum-encloses shares parts d count (suc first) (λ mask below. each mask (omega arith)))
 
-module _ (b : Basis) (rule : AreLives b.lives) (stop : StopLeaving b.lives) (pay : PlainPay) (is : IsValidInsurance pay) (events : SomeEvents) (T : ℕ) (started : T ≤ horizon b.lives pay.body) (in_time : horizon b.lives pay.body ≤ b.last_time)
-    (counted : List Bool) (count : length counted ≡ length b.lives) (marks : AreCounted pay events counted) (plus minus : List Bool → Ends) (plus_is : EnclosesSets above_zero b pay events counted T plus) (minus_is : EnclosesSets below_zero b pay events counted T minus) (alive : List Bool) (len : length alive ≡ length b.lives) where
-  abbrev value : List Bool → ℤ
-  value s = set_value b pay events (rank_in (numbers_from 0 (length b.lives))) T s
+sum-narrow : (shares : ℕ → Ends) (widths : ℕ → ℕ) (count first : ℕ) → ((mask : ℕ) → mask < first + count → HasWidth (shares mask) (widths mask))
+    → HasWidth (sum_of shares first count) (sum_over (numbers_from first count) widths)
+sum-narrow shares widths zero first each = record { near = omega (arith, ints) }
+sum-narrow shares widths (suc count) first each =
+    let here = each first (omega arith) in
+    let rest = sum-narrow shares widths count (suc first) (λ mask below. each mask (omega arith)) in
+    record { near = omega (arith, ints, here.near, rest.near) }
 
-  abbrev both : List Bool → Ends
-  both s = record { lo = (plus s).lo -ℤ (minus s).hi; hi = (plus s).hi -ℤ (minus s).lo }
+module _ (b : Basis) (rule : AreLives b.lives) (pay : PlainPay) (is : IsValidInsurance pay) (in_time : horizon b.lives pay.body ≤ b.last_time)
+    (events : SomeEvents) (T : ℕ) (lists : Lists) (held : HoldDues b pay events (length b.lives) T lists) (alive : ℕ) where
+  abbrev N : ℕ
+  N = length b.lives
 
-  set-encloses : (s : List Bool) → LiesIn alive s → Encloses (both s) (value s *ℤ pos (joint_survivors T (outside (in_set alive) s) b.lives)) (joint_survivors T (in_set alive) b.lives * accumulated b T)
-  set-encloses s lies =
-      let long : length s ≡ length b.lives = LiesIn-length alive s lies ∙ len in
-      let p = plus_is s long in
-      let m = minus_is s long in
-      let e = set-value-is-worth b rule stop pay is events T started in_time s counted long count marks (nothing-is-due-after b rule pay is s long) p.0 m.0 p.1 m.1 in
-      let split = joint-split T b.lives alive s len lies in
-      encloses_at (both s) (value s) (value s *ℤ pos (joint_survivors T (outside (in_set alive) s) b.lives)) (joint_survivors T (in_set s) b.lives * accumulated b T) (joint_survivors T (in_set alive) b.lives * accumulated b T) (joint_survivors T (outside (in_set alive) s) b.lives)
-      (rw e (encloses_sub (plus s) (minus s) (both s) _ _ (joint_survivors T (in_set s) b.lives * accumulated b T) refl refl p.2.encloses m.2.encloses))
-      refl
-      (rw (← split) (omega arith))
+  abbrev H : ℕ
+  H = horizon b.lives pay.body
 
-  pub all-enclose : Encloses (total_of (subsets alive) plus minus) (int_sum_over (subsets alive) (λ s. value s *ℤ pos (joint_survivors T (outside (in_set alive) s) b.lives))) (joint_survivors T (in_set alive) b.lives * accumulated b T)
-  all-enclose = encloses-sum alive (λ s. (plus s).lo -ℤ (minus s).hi) (λ s. (plus s).hi -ℤ (minus s).lo) (λ s. value s *ℤ pos (joint_survivors T (outside (in_set alive) s) b.lives)) (joint_survivors T (in_set alive) b.lives * accumulated b T) set-encloses
+  abbrev all : List Bool
+  all = bits N alive
+
+  -- what a set adds, over the survivors of all lives alive
+  abbrev part : List Bool → ℤ
+  part s = int_sum_over (taken b) (λ order. set_value b pay events (rank_in order) T s) *ℤ pos (joint_survivors T (outside (in_set all) s) b.lives)
+
+  abbrev whole : ℕ
+  whole = length (taken b) * (joint_survivors T (in_set all) b.lives * accumulated b T)
+
+  within : (mask : ℕ) → mask < 2 ^ N → is_within mask alive ≡ lies_in (bits N mask) (in_set all)
+  within mask below = within-is N mask alive below ∙ lies-agree (bits N mask) (has_bit alive) (in_set all) (λ i inside. has_bit-bits N alive i (omega (arith, inside, length-bits N mask)))
+
+  abbrev both : ℕ → Ends
+  both mask = record { lo = (entry lists.plus mask).lo -ℤ (entry lists.minus mask).hi; hi = (entry lists.plus mask).hi -ℤ (entry lists.minus mask).lo }
+
+  share-encloses : (mask : ℕ) → mask < 2 ^ N → Encloses (share lists alive mask) (cond (lies_in (bits N mask) (in_set all)) (part (bits N mask)) (pos 0)) whole
+  share-encloses mask below = by-case (lies_in (bits N mask) (in_set all)) refl (within mask below)
+    where
+      by-case : (lies : Bool) → lies_in (bits N mask) (in_set all) ≡ lies → is_within mask alive ≡ lies_in (bits N mask) (in_set all)
+          → Encloses (cond (is_within mask alive) (both mask) nothing) (cond (lies_in (bits N mask) (in_set all)) (part (bits N mask)) (pos 0)) whole
+      by-case false lies same = rw (same, lies) (record { low = omega (arith, ints); high = omega (arith, ints) })
+      by-case true lies same =
+          let s : List Bool = bits N mask in
+          let p = (held mask below).0 in
+          let m = (held mask below).1 in
+          let others : ℕ = joint_survivors T (outside (in_set all) s) b.lives in
+          let worth = set-value-is-worth b rule pay is events T in_time s (length-bits N mask) in
+          let split = survivors-split T (in_set all) b.lives s (length-bits N mask) lies in
+          let den : whole ≡ length (taken b) * joint_survivors T (in_set s) b.lives * accumulated b T * others = rw split (omega arith) in
+          rw (same, lies) (encloses_at (both mask) (pos (set_worth above_zero b pay events T s) -ℤ pos (set_worth below_zero b pay events T s)) (part s) (length (taken b) * joint_survivors T (in_set s) b.lives * accumulated b T) whole others
+          (encloses_sub (entry lists.plus mask) (entry lists.minus mask) (both mask) _ _ (length (taken b) * joint_survivors T (in_set s) b.lives * accumulated b T) refl refl p.encloses m.encloses)
+          (ap (λ z. z *ℤ pos others) worth) den)
+
+  -- the total encloses the sum of the parts of the subsets
+  pub parts-enclosed : Encloses (total_of lists (2 ^ N) alive) (int_sum_over (subsets all) part) whole
+  parts-enclosed =
+      let sum = sum-encloses (share lists alive) (λ mask. cond (lies_in (bits N mask) (in_set all)) (part (bits N mask)) (pos 0)) whole (2 ^ N) 0 (λ mask below. share-encloses mask (omega arith)) in
+      let e = int_sum_over-masks N (λ s. cond (lies_in s (in_set all)) (part s) (pos 0)) ∙ ap (λ (n : ℕ). int_sum_over (sets n) (λ s. cond (lies_in s (in_set all)) (part s) (pos 0))) (sym (length-bits N alive)) ∙ subsets-as-sets all part in
+      rw e at sum
 
   abbrev wide : List Bool → ℕ
-  wide s = (horizon b.lives pay.body - T) * ((3 * size_of s + 3) * due_in_all pay events (horizon b.lives pay.body) s T (horizon b.lives pay.body - T))
+  wide s = (H - T) * ((4 * size_of s + 3) * due_by_both pay events H s T (H - T))
 
-  set-narrow : (s : List Bool) → LiesIn alive s → (both s).hi ≤ℤ ((both s).lo +ℤ pos (wide s))
-  set-narrow s lies =
-      let long : length s ≡ length b.lives = LiesIn-length alive s lies ∙ len in
-      let p = plus_is s long in
-      let m = minus_is s long in
-      let h : ℕ = horizon b.lives pay.body - T in
-      let most = most-is pay events (horizon b.lives pay.body) s p.0 m.0 p.1 m.1 h T (omega arith) in
-      let sum : h * ((3 * size_of s + 3) * most_due p.0 T h) + h * ((3 * size_of s + 3) * most_due m.0 T h) ≡ wide s = omega (arith, ap (λ (n : ℕ). h * ((3 * size_of s + 3) * n)) most) in
-      omega (arith, ints, p.2.narrow.near, m.2.narrow.near, sum)
+  share-narrow : (mask : ℕ) → mask < 2 ^ N → HasWidth (share lists alive mask) (wide (bits N mask))
+  share-narrow mask below = by-case (is_within mask alive)
+    where
+      by-case : (lies : Bool) → HasWidth (cond lies (both mask) nothing) (wide (bits N mask))
+      by-case false = record { near = omega (arith, ints) }
+      by-case true =
+          let p = (held mask below).0 in
+          let m = (held mask below).1 in
+          let s : List Bool = bits N mask in
+          let more : ℕ = most_due (due_of above_zero pay events H s) T (H - T) in
+          let less : ℕ = most_due (due_of below_zero pay events H s) T (H - T) in
+          let sum : (H - T) * ((4 * size_of s + 3) * more) + (H - T) * ((4 * size_of s + 3) * less) ≡ wide s = omega arith in
+          record { near = omega (arith, ints, p.narrow.near, m.narrow.near, sum) }
 
-  pub all-narrow : (total_of (subsets alive) plus minus).hi ≤ℤ ((total_of (subsets alive) plus minus).lo +ℤ pos (sum_over (subsets alive) wide))
-  all-narrow = narrow-sum alive (λ s. (plus s).lo -ℤ (minus s).hi) (λ s. (plus s).hi -ℤ (minus s).lo) wide set-narrow
+  pub total-narrow : HasWidth (total_of lists (2 ^ N) alive) (sum_over (sets N) wide)
+  total-narrow =
+      let sum = sum-narrow (share lists alive) (λ mask. wide (bits N mask)) (2 ^ N) 0 (λ mask below. share-narrow mask (omega arith)) in
+      let e = sym (int_sum_over-pos (numbers_from 0 (2 ^ N)) (λ mask. wide (bits N mask))) ∙ int_sum_over-masks N (λ s. pos (wide s)) ∙ int_sum_over-pos (sets N) wide in
+      rw (pos_injective _ _ e) at sum
 
 pub sets-enclose-value : SetsEncloseValue
 unfolding denominator
-sets-enclose-value b ties rule stop end pay is one T started in_time counted count marks plus minus plus_is minus_is alive len =
-    let f : List ℕ → ℤ = λ order. int_sum_over (subsets alive) (λ s. set_value b pay all_events (rank_in order) T s *ℤ pos (joint_survivors T (outside (in_set alive) s) b.lives)) in
-    let declared : orders_taken b.ties (length b.lives) ≡ numbers_from 0 (length b.lives) ∷ [] = ap (λ t. orders_taken t (length b.lives)) ties in
-    let one_order : length (orders_taken b.ties (length b.lives)) ≡ 1 = ap length declared in
-    let whole : pos (numerator b pay T (in_set alive)) ≡ f (numbers_from 0 (length b.lives)) *ℤ pos 1 = insurance-by-sets b rule stop end pay is T alive len ∙ ap (λ orders. int_sum_over orders f) declared ∙ once (f (numbers_from 0 (length b.lives))) in
-    let den : length (orders_taken b.ties (length b.lives)) * (joint_survivors T (in_set alive) b.lives * accumulated b T) ≡ joint_survivors T (in_set alive) b.lives * accumulated b T * 1 = rw one_order (omega arith) in
+sets-enclose-value b rule end pay is one in_time T lists held alive =
+    let N : ℕ = length b.lives in
+    let all : List Bool = bits N alive in
+    let agrees : (i : ℕ) → i < N → has_bit alive i ≡ in_set all i = has_bit-bits N alive in
+    let parts = parts-enclosed b rule pay is in_time all_events T lists held alive in
+    let orders = insurance-by-sets b rule end pay is T all (length-bits N alive)
+        ∙ int_sum_over-swap (taken b) (subsets all) (λ order s. set_value b pay all_events (rank_in order) T s *ℤ pos (joint_survivors T (outside (in_set all) s) b.lives))
+        ∙ int_sum_over-ext (subsets all) _ _ (λ s. int_sum_over-scale_right (taken b) (pos (joint_survivors T (outside (in_set all) s) b.lives)) (λ order. set_value b pay all_events (rank_in order) T s)) in
+    let whole = rw (← orders) at parts in
     record {
-      encloses = encloses_at _ _ _ _ _ 1 (all-enclose b rule stop pay is all_events T started in_time counted count marks plus minus plus_is minus_is alive len) whole den;
-      narrow = record { near = omega (arith, ints, all-narrow b rule stop pay is all_events T started in_time counted count marks plus minus plus_is minus_is alive len, sets-within-count b ties pay is one all_events T started alive len) };
+      encloses = rw (numerator-agree b pay T (has_bit alive) (in_set all) agrees, joint-agree T b.lives (has_bit alive) (in_set all) agrees) whole;
+      narrow = record { near = omega (arith, ints, (total-narrow b rule pay is in_time all_events T lists held alive).near, sets-within-count b pay is one all_events T) };
     }
-  where
-    once : (z : ℤ) → z +ℤ pos 0 ≡ z *ℤ pos 1
-    once z = omega (arith, ints)

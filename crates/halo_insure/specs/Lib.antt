@@ -1,5 +1,6 @@
-pub mod YearOfSet
+pub mod Leavings
 pub mod OneSet
-pub mod OfTask
 pub mod Dues
 pub mod Total
+pub mod OfTask
+pub mod YearSets

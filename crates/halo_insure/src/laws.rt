@@ -1,7 +1,6 @@
 // Laws of the definitions: functions that do nothing, whose contracts are the laws.
-ghost use Rattle.halo_insure.specs.Dues.{DuesOfForm};
+ghost use Rattle.halo_insure.specs.Dues.{NothingIsDueAfter, SetValueIsWorth, SetsWithinCount};
 ghost use Rattle.halo_insure.specs.Total.{SetsEncloseValue};
-ghost use Rattle.halo_insure.specs.Dues.{DeclaredLeaving, NothingIsDueAfter, SetValueIsWorth, SetsWithinCount};
 
 /// The widths of the values of all sets of lives add up to no more than the count of the insurance,
 /// for its whole value and for what falls on some events.
@@ -9,14 +8,9 @@ pub fn sets_are_within_the_count()
     ensures { SetsWithinCount }
 {}
 
-/// In the declared order the weight of the leavings that count is found from the last life to the
-/// first: a life leaves and the others are alive, or it survives the year and one of the others leaves.
-pub fn leavings_in_the_declared_order()
-    ensures { DeclaredLeaving }
-{}
-
-/// The value of an insurance for a set of lives is what the coefficients of the set that are above 0
-/// are worth, less what those below 0 are. From the horizon on nothing is due for a set.
+/// The value of an insurance for a set of lives, summed over the orders taken, is what the coefficients
+/// of the set that are above 0 are worth, less what those below 0 are. From the horizon on nothing is
+/// due for a set.
 pub fn set_values_by_signs()
     ensures worth { SetValueIsWorth }
     ensures horizon { NothingIsDueAfter }
@@ -26,9 +20,4 @@ pub fn set_values_by_signs()
 /// signs of its coefficients, encloses the value of the insurance and is within its count.
 pub fn sets_enclose_the_value()
     ensures { SetsEncloseValue }
-{}
-
-/// What is found to be due by years, from the coefficients of a set by time, is what its form says.
-pub fn dues_of_the_form()
-    ensures { DuesOfForm }
 {}

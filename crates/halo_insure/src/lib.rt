@@ -5,8 +5,13 @@
 //! discounted together. The value for the lives alive is the sum over their sets.
 #![tactic(auto)]
 
-mod chances;
-mod dues;
+mod due;
+mod failing;
 pub mod laws;
-mod one_set;
-mod year_back;
+mod one_year;
+mod sets;
+mod step;
+mod value;
+
+pub use step::{at_horizon, year_back};
+pub use value::value_at;

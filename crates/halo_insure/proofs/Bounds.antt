@@ -1,0 +1,85 @@
+-- An insurance of 1 is worth from nothing to its greatest factor, where somebody of each life alive survives.
+use Rattle.std.proofs.Common.{◌≡◌, ℕ, zero, suc, ◌+◌, ◌*◌, ◌-◌, ◌<◌, ◌≤◌, arith, refl, ap, sym, ◌∙◌, List, [], ◌∷◌, length, Bool, true, false, cond, ℤ, pos, ◌*ℤ◌, ◌≤ℤ◌}
+use Rattle.std.proofs.Math.Nat.{mul-le-mul_right, mul-pos}
+use Rattle.std.proofs.lemmas.Int.{ints}
+use Rattle.halo_sums.specs.Masks.{has_bit}
+use Rattle.halo_sums.specs.Sums.{numbers_from, product_over, sum_over}
+use Rattle.halo_sums.proofs.Integers.{le_of_mul_pos, le_trans}
+use Rattle.halo_sums.proofs.Sums.{sum_over-const}
+use Rattle.halo_num.specs.Ends.{Ends, fine}
+use Rattle.halo_num.specs.Enclosure.{Encloses}
+use Rattle.halo_interest.specs.Rates.{IsInterest, rate_of}
+use Rattle.halo_interest.proofs.InForce.{in_force_is}
+use Rattle.halo_status.specs.Pay.{PlainPay}
+use Rattle.halo_status.specs.declared.pay.Kind.{Kind}
+use Rattle.halo_status.specs.declared.pay.Kind.TheVariants.{Insurance}
+use Rattle.halo_table.specs.DecrementTable.{TableFile, survivors_at}
+use Rattle.halo_table.specs.declared.lives.Life.{Life}
+use Rattle.halo_model.specs.Basis.{Basis, accumulated, taken}
+use Rattle.halo_model.specs.Chance.{IsValidInsurance}
+use Rattle.halo_model.specs.Counts.{Measures, greatest_factor, measures_of, most_worth}
+use Rattle.halo_model.specs.EvenTies.{factorial}
+use Rattle.halo_model.specs.FromTables.{lives_of}
+use Rattle.halo_model.specs.Horizon.{horizon, life_at}
+use Rattle.halo_model.specs.Life.{AreLives, after_first}
+use Rattle.halo_model.specs.Order.{Ties, all_orders, declared_order, orders, orders_taken}
+use Rattle.halo_model.specs.Outcome.{joint_survivors}
+use Rattle.halo_model.specs.PartLaws.{EndBy}
+use Rattle.halo_model.specs.Value.{denominator, numerator}
+use Rattle.halo_model.proofs.Bounded.{insurance-is-bounded}
+use Rattle.halo_model.proofs.EvenTies.{factorial-some}
+use Rattle.halo_model.proofs.Orders.{orders-count}
+use Rattle.halo_life.specs.PlainGroup.{IsGroup, survivors_in}
+use Rattle.halo_compile.specs.declared.task.Task.{Task}
+use Rattle.halo_insure.specs.OfTask.{insured_basis, unit_pay}
+
+-- a value that is at most so many ones
+pub ones-above : (num den most : ℕ) → num ≤ most * den → (pos num *ℤ pos fine) ≤ℤ (pos (most * fine) *ℤ pos den)
+ones-above num den most h = let m : num * fine ≤ most * den * fine = mul-le-mul_right fine h in omega (arith, ints, m)
+
+-- its enclosure meets the bounds
+pub meets-above : (i : Ends) (num den most : ℕ) → 0 < den → Encloses i (pos num) den → num ≤ most * den → i.lo ≤ℤ pos (most * fine)
+meets-above i num den most some e h = le_of_mul_pos i.lo (pos (most * fine)) den some (le_trans (i.lo *ℤ pos den) (pos num *ℤ pos fine) (pos (most * fine) *ℤ pos den) e.low (ones-above num den most h))
+
+pub meets-below : (i : Ends) (num den : ℕ) → 0 < den → Encloses i (pos num) den → pos 0 ≤ℤ i.hi
+meets-below i num den some e = le_of_mul_pos (pos 0) i.hi den some (omega (arith, ints, e.high))
+
+-- there is an order of the lives
+some-orders : (ties : Ties) (n : ℕ) → 0 < length (orders_taken ties n)
+some-orders declared_order n = omega arith
+some-orders all_orders n =
+    let count = orders-count (numbers_from 0 n) 1 in
+    let each = sum_over-const (orders (numbers_from 0 n)) 1 in
+    omega (arith, count, each, factorial-some (length (numbers_from 0 n)))
+
+-- somebody survives of lives of whom each has survivors
+some-survive : (file : TableFile) (T : ℕ) (U : ℕ → Bool) (lives : List Life) → ((i : ℕ) → i < length lives → U i ≡ true → 0 < survivors_at file (life_at lives i).table ((life_at lives i).age + T))
+    → 0 < joint_survivors T U (lives_of file lives)
+some-survive file T U [] h = omega arith
+some-survive file T U (x ∷ lives) h = mul-pos (first (U 0) (h 0 (omega arith))) (some-survive file T (after_first U) lives (λ i below. h (suc i) (omega (arith, below))))
+  where
+    first : (is : Bool) → (is ≡ true → 0 < survivors_at file x.table (x.age + T)) → 0 < cond is (survivors_at file x.table (x.age + T)) 1
+    first true k = k refl
+    first false k = omega arith
+
+-- 1 is worth something with interest
+some-interest : (p q : ℕ → ℕ) → ((k : ℕ) → 1 ≤ q k) → (count first : ℕ) → 0 < product_over (numbers_from first count) (λ k. p k + q k)
+some-interest p q h zero first = omega arith
+some-interest p q h (suc count) first = mul-pos (omega (arith, h first)) (some-interest p q h count (suc first))
+
+pub some-denominator : {n m : ℕ} (task : Task n m) → IsGroup n task.group.now → IsInterest task.interest.now → (t alive : ℕ) → ((i : ℕ) → i < n → has_bit alive i ≡ true → 0 < survivors_in task.group.now t i)
+    → 0 < denominator (insured_basis task) t (has_bit alive)
+unfolding denominator
+some-denominator {n} {m} task group interest t alive living = mul-pos (some-orders task.group.now.ties (length (insured_basis task).lives)) (mul-pos
+    (some-survive task.group.now.file t (has_bit alive) task.group.now.lives (λ i below. living i (omega (arith, below, group.count))))
+    (some-interest (λ k. (rate_of task.interest.now k).p) (λ k. (rate_of task.interest.now k).q) (λ k. (in_force_is task.interest.now interest k).q_from) (200 - t) t))
+
+-- the most that it can be worth
+pub most-is : (kind : Kind) → kind ≡ Insurance → (m : Measures) → most_worth kind m ≡ m.factor
+unfolding most_worth
+most-is kind e m = rw e refl
+
+pub bounded : (b : Basis) → AreLives b.lives → EndBy b.last_time b.lives → (pay : PlainPay) → IsValidInsurance pay → pay.amount ≡ 1 → (T : ℕ) (S : ℕ → Bool) → numerator b pay T S ≤ greatest_factor pay.vary (horizon b.lives pay.body) * denominator b T S
+bounded b rule end pay is one T S =
+    let once : 1 * greatest_factor pay.vary (horizon b.lives pay.body) ≡ greatest_factor pay.vary (horizon b.lives pay.body) = omega arith in
+    rw (one, once) at (insurance-is-bounded b rule end pay is T S)

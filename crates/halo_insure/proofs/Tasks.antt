@@ -1,0 +1,140 @@
+-- What a valid task of an insurance says of its lives and its pay.
+use Rattle.std.proofs.Common.{◌≡◌, ℕ, zero, suc, ◌+◌, ◌*◌, ◌-◌, ◌^◌, ◌<◌, ◌≤◌, arith, refl, ap, sym, ◌∙◌, List, [], ◌∷◌, length, get_or, Bool, true, false, cond, nat_lt, ℤ, pos, ⊎_elim}
+use Rattle.std.proofs.Math.Nat.{pow-le-pow_right}
+use Rattle.std.proofs.lemmas.Nat.{mul-le}
+use Rattle.std.proofs.lemmas.List.{length-map}
+use Rattle.std.proofs.lemmas.List.Elements.{All-from_get_or, All-get_or}
+use Rattle.halo_sums.specs.Masks.{bits}
+use Rattle.halo_sums.specs.Sets.{size_of}
+use Rattle.halo_sums.proofs.SetMasks.{length-bits}
+use Rattle.std.proofs.lemmas.Bool.{cases_lt}
+use Rattle.std.proofs.lemmas.Bool.Decides.{nat_tests}
+use Rattle.std.proofs.lemmas.Int.{ints}
+use Rattle.halo_num.specs.Ends.{Ends}
+use Rattle.std.specs.Prelude.{All}
+use Rattle.halo_table.specs.DecrementTable.{DecrementTable, TableFile, empty_table, last_age_of}
+use Rattle.halo_table.specs.Sound.{IsSound, IsSoundTable}
+use Rattle.halo_table.specs.declared.lives.Life.{Life}
+use Rattle.halo_model.specs.Basis.{Basis}
+use Rattle.halo_model.specs.PartLaws.{EndBy}
+use Rattle.halo_insure.specs.Dues.{coefficient_before}
+use Rattle.halo_insure.specs.Total.{EnclosesInsurance}
+use Rattle.halo_status.specs.Pay.{PlainPay, pay_of}
+use Rattle.halo_status.specs.ValidPay.{IsValidPay}
+use Rattle.halo_status.specs.declared.pay.Kind.TheVariants.{Insurance}
+use Rattle.halo_model.specs.Chance.{IsValidInsurance}
+use Rattle.halo_model.specs.Coefficient.{form}
+use Rattle.halo_model.specs.Enclosed.{of_one}
+use Rattle.halo_model.specs.Order.{Ties, all_orders, declared_order}
+use Rattle.halo_poly.specs.Poly.{coefficient_at}
+use Rattle.halo_model.specs.FromTables.{HasRow, life_of, lives_of}
+use Rattle.halo_model.specs.Life.{AreLives}
+use Rattle.halo_model.proofs.FromTables.{lives_of-AreLives}
+use Rattle.halo_life.specs.PlainGroup.{IsGroup, PlainGroup}
+use Rattle.halo_life.specs.YearOfSets.{products_of_leavings}
+use Rattle.halo_compile.specs.Form.{HasTime, IsPolyOf}
+use Rattle.halo_compile.proofs.Times.{coefficients-by-mask, time-has-segment}
+use Rattle.halo_compile.specs.declared.task.Task.{Task}
+use Rattle.halo_compile.specs.ValidTask.{IsTask}
+use Rattle.halo_insure.specs.OfTask.{insured_basis, unit_pay}
+
+pub few-sets : (n m : ℕ) → m ≡ 2 ^ n → n ≤ 12 → m ≤ 4096
+few-sets n m e few = let p : 2 ^ n ≤ 2 ^ 12 = pow-le-pow_right (omega arith) few in omega (arith, e, p)
+
+module _ {n m : ℕ} (task : Task n m) (group : IsGroup n task.group.now) where
+  pub count-lives : length (insured_basis task).lives ≡ n
+  count-lives = length-map task.group.now.lives (λ life. life_of task.group.now.file life.table life.age) ∙ group.count
+
+  pub are-lives : AreLives (insured_basis task).lives
+  are-lives = lives_of-AreLives task.group.now.file group.sound task.group.now.lives
+      (All-from_get_or (λ life. HasRow task.group.now.file life.table life.age) task.group.now.lives (record { table = 0; age = 0 }) (λ i h. group.rows i (omega (arith, h, group.count))))
+
+-- with amount 1 it is a valid insurance as well
+pub unit-valid : {n m : ℕ} (task : Task n m) → IsTask task → task.pay.now.kind ≡ Insurance → IsValidInsurance (unit_pay task)
+unit-valid task is kind =
+    let v = is.valid in
+    record {
+      valid = record {
+        amount_from = omega arith;
+        amount_in = omega arith;
+        defer_in = v.defer_in;
+        vary = v.vary;
+        lengths = v.lengths;
+        lists = v.lists;
+        few_nodes = v.few_nodes;
+        ranks = v.ranks;
+        lasting = v.lasting;
+        causes = v.causes;
+        mark = v.mark;
+      };
+      kind = kind;
+    }
+
+-- the form of a pay does not see its amount
+form-of-one : (pay : PlainPay) (t : ℕ) (s : List Bool) → form pay t s ≡ form (of_one pay) t s
+unfolding form
+form-of-one pay t s = refl
+
+-- the coefficients of the polynomial of a time, for amount 1
+pub unit-coefficients : {n m : ℕ} (task : Task n m) (t : ℕ) (p : List ℤ) → IsPolyOf (pay_of task.pay.now) n t p → (mask : ℕ) → mask < 2 ^ n → coefficient_at p mask ≡ form (unit_pay task) t (bits n mask)
+unit-coefficients {n} {m} task t p is mask below = coefficients-by-mask (pay_of task.pay.now) n t p is mask below ∙ form-of-one (pay_of task.pay.now) t (bits n mask)
+
+-- an insurance has a form at each time before its horizon
+pub has-form : {n m : ℕ} (task : Task n m) → IsTask task → task.pay.now.kind ≡ Insurance → (t : ℕ) → t < task.horizon → (place : ℕ) × HasTime task.form.now t place
+has-form {n} {m} task is kind t before = time-has-segment (pay_of task.pay.now) n task.horizon t task.form.now is.form (rw kind (omega arith)) (rw kind (omega (arith, before)))
+
+-- fewer lives make fewer products
+size-within : (s : List Bool) → size_of s ≤ length s
+size-within [] = omega arith
+size-within (true ∷ s) = omega (arith, size-within s)
+size-within (false ∷ s) = omega (arith, size-within s)
+
+pub named-few : (n named : ℕ) → size_of (bits n named) ≤ n
+named-few n named = omega (arith, size-within (bits n named), length-bits n named)
+
+pub products-most : (ties : Ties) (few n : ℕ) → few ≤ n → products_of_leavings ties few ≤ products_of_leavings ties n
+products-most declared_order few n h = pow-le-pow_right (omega arith) h
+products-most all_orders few n h = mul-le few (2 ^ few) n (2 ^ n) h (pow-le-pow_right (omega arith) h)
+
+-- a table ends by age 150
+no-table : (tables : List DecrementTable) (i : ℕ) → length tables ≤ i → get_or tables i empty_table ≡ empty_table
+no-table [] i h = refl
+no-table (t ∷ tables) zero h = absurd (omega arith)
+no-table (t ∷ tables) (suc i) h = no-table tables i (omega arith)
+
+ages-end : (causes : ℕ) (tables : List DecrementTable) → All (IsSoundTable causes) tables → (i : ℕ) → (get_or tables i empty_table).first_age + length (get_or tables i empty_table).rows ≤ 151
+ages-end causes tables sound i = ⊎_elim
+    (λ (there : i < length tables). (All-get_or (IsSoundTable causes) tables i empty_table there sound).ages)
+    (λ (past : length tables ≤ i). rw (no-table tables i past) (omega arith))
+    (cases_lt i (length tables))
+
+table-ends : (file : TableFile) → IsSound file → (table age : ℕ) → last_age_of file table + 1 - age ≤ 200
+table-ends file sound table age = omega (arith, ages-end (length file.causes) file.tables sound.tables table)
+
+lives-end : (file : TableFile) → IsSound file → (lives : List Life) → EndBy 200 (lives_of file lives)
+lives-end file sound [] = tt
+lives-end file sound (x ∷ lives) = (table-ends file sound x.table x.age, lives-end file sound lives)
+
+-- the tables of all lives end by time 200
+pub end-by : {n m : ℕ} (task : Task n m) → IsGroup n task.group.now → EndBy 200 (insured_basis task).lives
+end-by task group = lives-end task.group.now.file group.sound task.group.now.lives
+
+-- an interval with the same ends encloses the same
+pub same-insurance : (b : Basis) (pay : PlainPay) (T alive : ℕ) (i j : Ends) → i.lo ≡ j.lo → i.hi ≡ j.hi → EnclosesInsurance b pay T alive j → EnclosesInsurance b pay T alive i
+same-insurance b pay T alive i j lo hi e = record {
+  encloses = record { low = rw lo e.encloses.low; high = rw hi e.encloses.high };
+  narrow = record { near = omega (arith, ints, lo, hi, e.narrow.near) };
+}
+
+-- the products of the chances of the named lives
+pub products-together : (n m named : ℕ) (ties : Ties) → m ≡ 2 ^ n → (2 ^ size_of (bits n named) ≤ m) × (products_of_leavings ties (size_of (bits n named)) ≤ products_of_leavings ties n)
+products-together n m named ties sets = (rw sets (pow-le-pow_right (omega arith) (named-few n named)), products-most ties (size_of (bits n named)) n (named-few n named))
+
+-- the coefficients of the next time, and none where the form does not go on
+pub next-of-form : {n m : ℕ} (task : Task n m) (k time : ℕ) (goes : Bool) (p : List ℤ) → IsPolyOf (pay_of task.pay.now) n time p → goes ≡ nat_lt (suc k) task.horizon → (suc k < task.horizon → time ≡ suc k)
+    → (mask : ℕ) → mask < 2 ^ n → cond goes (coefficient_at p mask) (pos 0) ≡ coefficient_before (unit_pay task) task.horizon (suc k) (bits n mask)
+next-of-form {n} {m} task k time goes p is going next mask below = rw going (each (nat_lt (suc k) task.horizon) refl)
+  where
+    each : (b : Bool) → nat_lt (suc k) task.horizon ≡ b → cond b (coefficient_at p mask) (pos 0) ≡ cond b (form (unit_pay task) (suc k) (bits n mask)) (pos 0)
+    each true e = let t : time ≡ suc k = next (grind (arith, nat_tests, e)) in unit-coefficients task time p is mask below ∙ ap (λ (u : ℕ). form (unit_pay task) u (bits n mask)) t
+    each false e = refl

@@ -1,0 +1,14 @@
+use Rattle.std.proofs.Common.{ℕ, ◌<◌, arith}
+use Rattle.halo_model.specs.SetValue.{all_events}
+use Rattle.halo_insure.specs.OfTask.{insured_basis, unit_pay}
+use Rattle.halo_insure.proofs.Carried.{none-held}
+use Rattle.halo_insure.proofs.step.at_horizon.Goals as goal
+
+pub returns : goal.returns
+returns g c = record {
+  values = λ t past.
+      let task = c.args.task.now in
+      none-held (insured_basis task) (unit_pay task) all_events g.row.N t c.loop-set.work (rw (← c.requires.task.horizon_is) past)
+      (λ mask h. c.loop-set.invariant.plus mask (omega (arith, h, c.requires.task.sets, c.loop-set-test.false)))
+      (λ mask h. c.loop-set.invariant.minus mask (omega (arith, h, c.requires.task.sets, c.loop-set-test.false)));
+}

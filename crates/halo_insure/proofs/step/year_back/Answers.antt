@@ -1,0 +1,33 @@
+use Rattle.std.proofs.Common.{◌≡◌, ℕ, suc, ◌+◌, ◌^◌, arith, lit<, refl, sym, ap, subst, ◌∙◌}
+use Rattle.halo_life.specs.Total.{AreModest}
+use Rattle.halo_model.specs.SetValue.{all_events}
+use Rattle.halo_insure.specs.Dues.{ends_count}
+use Rattle.halo_insure.specs.OfTask.{insured_basis, unit_pay}
+use Rattle.halo_insure.proofs.Small.{dues-modest}
+use Rattle.halo_insure.proofs.step.year_back.Goals as goal
+
+pub carry_back-requires : goal.carry_back-requires
+carry_back-requires g c =
+    let task = c.args.task.now in
+    let is = c.requires.task in (
+      lit< tt,
+      (
+        lit< tt,
+        (
+          is,
+          (
+            c.requires.insurance,
+            (
+              c.requires.time,
+              subst (λ (m : ℕ). AreModest m c.args.work.now) (sym is.sets)
+                  (dues-modest (insured_basis task) (unit_pay task) refl is.valid.vary (rw (← is.horizon_is) is.horizon_in) all_events g.row.N c.start-start.ensures.group.few (suc c.args.k) c.args.work.now c.requires.values),
+            ),
+          ),
+        ),
+      ),
+    )
+
+pub returns-clause-values : goal.returns-clause-values
+returns-clause-values g c =
+    let next : c.args.k + 1 ≡ suc c.args.k = omega arith in
+    c.carry_back.ensures.values all_events c.failing_lives-counted.ensures (rw next at c.can_fall_on_term-ends.ensures) c.requires.values

@@ -1,0 +1,71 @@
+// A year of the recursion: from what is due after it to what is due from its start on.
+ghost use Rattle.std.specs.Prelude.{◌≡◌, ℕ, ◌+◌, ◌*◌, ◌^◌, pos, ◌≤ℤ◌};
+ghost use Rattle.halo_num.specs.Ends.{HasWidth, IsWithin, fine};
+ghost use Rattle.halo_num.specs.Enclosure.{Encloses};
+ghost use Rattle.halo_insure.specs.OneSet.{GoesBack};
+
+use crate::due::Due;
+use halo_num::{Ival, Steps};
+use std::sync::ledger::Ledger;
+
+/// The chances of a year, of a set of lives that are alive at its start.
+#[derive(Clone, Copy)]
+pub(crate) struct Chances {
+    /// That the first of them to leave leaves by an event that counts.
+    pub(crate) leaving: Ival,
+    /// That all of them survive the year.
+    pub(crate) survival: Ival,
+}
+
+/// So many payments with a chance.
+fn payments(chance: Ival, count: u32) -> Ival
+    requires chance { IsWithin chance (pos 0) (pos fine) }
+    ensures from { pos 0 ≤ℤ result.lo }
+    ensures bound { result.hi ≤ℤ pos (count * fine) }
+    ensures small { result.hi ≤ℤ pos (2 ^ 32 * fine) }
+    ensures narrow { (w : ℕ) → HasWidth chance w → HasWidth result (count * w) }
+    ensures encloses { (n d : ℕ) → Encloses chance (pos n) d → Encloses result (pos (count * n)) d }
+{
+    let _lowest = chance.lo();
+    chance.scale(i64::from(count))
+}
+
+/// What is due at the end of a year, on a leaving and on the end of a term.
+fn due_in_year(chances: &Chances, due: Due) -> Ival
+    requires leaving { IsWithin chances.now.leaving (pos 0) (pos fine) }
+    requires survival { IsWithin chances.now.survival (pos 0) (pos fine) }
+    ensures from { pos 0 ≤ℤ result.lo }
+    ensures bound { result.hi ≤ℤ pos ((due.on_leaving + due.at_end) * fine) }
+    ensures small { result.hi ≤ℤ pos (2 ^ 33 * fine) }
+    ensures narrow { (d : ℕ) → HasWidth chances.now.leaving d → HasWidth chances.now.survival d →
+        HasWidth result ((due.on_leaving + due.at_end) * d) }
+    ensures encloses { (left alive start : ℕ) → Encloses chances.now.leaving (pos left) start →
+        Encloses chances.now.survival (pos alive) start →
+        Encloses result (pos (due.on_leaving * left + due.at_end * alive)) start }
+{
+    let on_leaving = payments(chances.leaving, due.on_leaving);
+    let at_end = payments(chances.survival, due.at_end);
+    on_leaving.add(at_end)
+}
+
+/// The value at the start of a year of what is due at its end and of what comes `later`, which is
+/// told as its value at the end if all of the set survive.
+pub(crate) fn value_back<L: Ledger>(
+    later: Ival,
+    chances: &Chances,
+    discount: Ival,
+    due: Due,
+    steps: &mut Steps<L>,
+) -> Ival
+    requires leaving { IsWithin chances.now.leaving (pos 0) (pos fine) }
+    requires survival { IsWithin chances.now.survival (pos 0) (pos fine) }
+    requires discount { IsWithin discount (pos 0) (pos fine) }
+    requires later { IsWithin later (pos 0) (pos (10 ^ 32)) }
+    ensures back { GoesBack later chances.now.leaving chances.now.survival discount due result }
+    ensures cost { steps.new ≡ steps.old + 2 }
+{
+    let _lowest = later.lo();
+    let due = due_in_year(chances, due);
+    let carried = later.mul(chances.survival, steps);
+    due.add(carried).mul(discount, steps)
+}

@@ -1,0 +1,158 @@
+// A year back for all sets of lives.
+ghost use Rattle.std.specs.Prelude.{◌≡◌, ◌≢◌, ℕ, suc, ◌+◌, ◌*◌, ◌^◌, ◌<◌, ◌≤◌, false, true, pos};
+ghost use Rattle.halo_num.specs.Ends.{IsSized, IsWithin, fine};
+ghost use Rattle.halo_model.specs.Backward.{above_zero, below_zero};
+ghost use Rattle.halo_poly.specs.Poly.{coefficient_at};
+ghost use Rattle.halo_life.specs.Lists.{entry, nothing};
+ghost use Rattle.halo_life.specs.Total.{AreModest, is_within};
+ghost use Rattle.halo_insure.specs.YearSets.{SetGoesBack, SetsGoBack, next_coefficient};
+
+use crate::due::{YearPays, due_above, due_below};
+use crate::one_year::{Chances, value_back};
+use halo_life::Work;
+use halo_num::{Ival, Steps};
+use halo_poly::Poly;
+use std::sync::ledger::Ledger;
+
+/// A year of an insurance: its discount, what it pays, and the coefficients of all sets in it and in
+/// the year after, if the form goes on until then.
+#[derive(Clone, Copy)]
+pub(crate) struct Year<'a, const M: usize> {
+    pub(crate) discount: Ival,
+    pub(crate) pays: YearPays,
+    pub(crate) here: &'a Poly<M>,
+    pub(crate) next: &'a Poly<M>,
+    pub(crate) goes_on: bool,
+}
+
+/// Makes the values of a set exactly 0.
+pub(crate) fn clear<const M: usize>(work: &mut Work<M>, set: u16)
+    requires { set < M }
+    ensures plus { entry work.new.plus set ≡ nothing }
+    ensures minus { entry work.new.minus set ≡ nothing }
+    ensures others { (mask : ℕ) → mask ≢ set →
+        (entry work.new.plus mask ≡ entry work.old.plus mask)
+        × (entry work.new.minus mask ≡ entry work.old.minus mask) }
+    ensures survivals { work.new.survivals ≡ work.old.survivals }
+    ensures leavings { work.new.leavings ≡ work.old.leavings }
+{
+    work.put(set, Ival::exact(0), Ival::exact(0));
+}
+
+/// The coefficient of a set in the year after, and 0 where the form does not go on.
+fn next_coefficient<const M: usize>(year: &Year<M>, set: u16) -> i64
+    requires set { set < M }
+    requires sized { IsSized (coefficient_at year.now.next.now set) 4096 }
+    ensures value { result ≡ next_coefficient year.now set }
+    ensures sized { IsSized result 4096 }
+{
+    if year.goes_on {
+        year.next.coefficient(set)
+    } else {
+        0
+    }
+}
+
+/// Carries the values of a set back by a year.
+fn set_back<const M: usize, L: Ledger>(
+    work: &mut Work<M>,
+    year: &Year<M>,
+    set: u16,
+    steps: &mut Steps<L>,
+)
+    requires set { set < M }
+    requires discount { IsWithin year.now.discount (pos 0) (pos fine) }
+    requires payment { year.now.pays.payment ≤ 65535 }
+    requires here { IsSized (coefficient_at year.now.here.now set) 4096 }
+    requires next { IsSized (coefficient_at year.now.next.now set) 4096 }
+    requires leaving { IsWithin (entry work.old.leavings set) (pos 0) (pos fine) }
+    requires survival { IsWithin (entry work.old.survivals set) (pos 0) (pos fine) }
+    requires plus { IsWithin (entry work.old.plus set) (pos 0) (pos (10 ^ 32)) }
+    requires minus { IsWithin (entry work.old.minus set) (pos 0) (pos (10 ^ 32)) }
+    ensures plus {
+        SetGoesBack above_zero year.now work.old set (entry work.old.plus set) (entry work.new.plus set) }
+    ensures minus {
+        SetGoesBack below_zero year.now work.old set (entry work.old.minus set) (entry work.new.minus set) }
+    ensures others { (mask : ℕ) → mask ≢ set →
+        (entry work.new.plus mask ≡ entry work.old.plus mask)
+        × (entry work.new.minus mask ≡ entry work.old.minus mask) }
+    ensures survivals { work.new.survivals ≡ work.old.survivals }
+    ensures leavings { work.new.leavings ≡ work.old.leavings }
+    ensures cost { steps.new ≡ steps.old + 4 }
+{
+    let here = year.here.coefficient(set);
+    let next = next_coefficient(year, set);
+    let chances = Chances {
+        leaving: work.leaving(set),
+        survival: work.at(set),
+    };
+    let above = due_above(year.pays, here, next);
+    let below = due_below(year.pays, here, next);
+    let plus = value_back(work.plus(set), &chances, year.discount, above, steps);
+    let minus = value_back(work.minus(set), &chances, year.discount, below, steps);
+    work.put(set, plus, minus);
+}
+
+/// Carries the values of a set within `named` back by a year, and makes those of another set 0.
+fn named_set_back<const M: usize, L: Ledger>(
+    work: &mut Work<M>,
+    year: &Year<M>,
+    named: u16,
+    set: u16,
+    steps: &mut Steps<L>,
+)
+    requires set { set < M }
+    requires discount { IsWithin year.now.discount (pos 0) (pos fine) }
+    requires payment { year.now.pays.payment ≤ 65535 }
+    requires here { IsSized (coefficient_at year.now.here.now set) 4096 }
+    requires next { IsSized (coefficient_at year.now.next.now set) 4096 }
+    requires leaving { is_within set named ≡ true → IsWithin (entry work.old.leavings set) (pos 0) (pos fine) }
+    requires survival { is_within set named ≡ true → IsWithin (entry work.old.survivals set) (pos 0) (pos fine) }
+    requires plus { IsWithin (entry work.old.plus set) (pos 0) (pos (10 ^ 32)) }
+    requires minus { IsWithin (entry work.old.minus set) (pos 0) (pos (10 ^ 32)) }
+    ensures plus { is_within set named ≡ true →
+        SetGoesBack above_zero year.now work.old set (entry work.old.plus set) (entry work.new.plus set) }
+    ensures minus { is_within set named ≡ true →
+        SetGoesBack below_zero year.now work.old set (entry work.old.minus set) (entry work.new.minus set) }
+    ensures none { is_within set named ≡ false →
+        (entry work.new.plus set ≡ nothing) × (entry work.new.minus set ≡ nothing) }
+    ensures others { (mask : ℕ) → mask ≢ set →
+        (entry work.new.plus mask ≡ entry work.old.plus mask)
+        × (entry work.new.minus mask ≡ entry work.old.minus mask) }
+    ensures survivals { work.new.survivals ≡ work.old.survivals }
+    ensures leavings { work.new.leavings ≡ work.old.leavings }
+    ensures cost { steps.new ≤ steps.old + 4 }
+{
+    if set & named != set {
+        clear(work, set);
+        return;
+    }
+    set_back(work, year, set, steps);
+}
+
+/// Carries the values of all sets within `named` back by a year, and makes those of all others 0.
+///
+/// It makes four products for each set.
+pub(crate) fn sets_back<const M: usize, L: Ledger>(
+    work: &mut Work<M>,
+    year: &Year<M>,
+    named: u16,
+    steps: &mut Steps<L>,
+)
+    requires few { M ≤ 4096 }
+    requires discount { IsWithin year.now.discount (pos 0) (pos fine) }
+    requires payment { year.now.pays.payment ≤ 65535 }
+    requires here { (mask : ℕ) → mask < M → IsSized (coefficient_at year.now.here.now mask) 4096 }
+    requires next { (mask : ℕ) → mask < M → IsSized (coefficient_at year.now.next.now mask) 4096 }
+    requires leavings { (mask : ℕ) → mask < M → is_within mask named ≡ true →
+        IsWithin (entry work.old.leavings mask) (pos 0) (pos fine) }
+    requires survivals { (mask : ℕ) → mask < M → is_within mask named ≡ true →
+        IsWithin (entry work.old.survivals mask) (pos 0) (pos fine) }
+    requires modest { AreModest M work.old }
+    ensures back { SetsGoBack year.now named work.old work.new }
+    ensures cost { steps.new ≤ steps.old + 4 * M }
+{
+    for set in 0..M as u16 {
+        named_set_back(work, year, named, set, steps);
+    }
+}
