@@ -1,9 +1,9 @@
 -- An insurance of 1 is worth from nothing to its greatest factor, where somebody of each life alive survives.
-use Rattle.std.proofs.Common.{◌≡◌, ℕ, zero, suc, ◌+◌, ◌*◌, ◌-◌, ◌<◌, ◌≤◌, arith, refl, ap, sym, ◌∙◌, List, [], ◌∷◌, length, Bool, true, false, cond, ℤ, pos, ◌*ℤ◌, ◌≤ℤ◌}
+use Rattle.std.proofs.Common.{◌≡◌, ℕ, zero, suc, ◌+◌, ◌*◌, ◌-◌, ◌<◌, ◌≤◌, arith, refl, ap, sym, ◌∙◌, List, [], ◌∷◌, length, Bool, true, false, cond, pos, ◌*ℤ◌, ◌≤ℤ◌, ◌^◌, subst}
 use Rattle.std.proofs.Math.Nat.{mul-le-mul_right, mul-pos}
 use Rattle.std.proofs.lemmas.Int.{ints}
 use Rattle.halo_sums.specs.Masks.{has_bit}
-use Rattle.halo_sums.specs.Sums.{numbers_from, product_over, sum_over}
+use Rattle.halo_sums.specs.Sums.{numbers_from, product_over}
 use Rattle.halo_sums.proofs.Integers.{le_of_mul_pos, le_trans}
 use Rattle.halo_sums.proofs.Sums.{sum_over-const}
 use Rattle.halo_num.specs.Ends.{Ends, fine}
@@ -15,10 +15,9 @@ use Rattle.halo_status.specs.declared.pay.Kind.{Kind}
 use Rattle.halo_status.specs.declared.pay.Kind.TheVariants.{Insurance}
 use Rattle.halo_table.specs.DecrementTable.{TableFile, survivors_at}
 use Rattle.halo_table.specs.declared.lives.Life.{Life}
-use Rattle.halo_model.specs.Basis.{Basis, accumulated, taken}
+use Rattle.halo_model.specs.Basis.{Basis}
 use Rattle.halo_model.specs.Chance.{IsValidInsurance}
 use Rattle.halo_model.specs.Counts.{Measures, greatest_factor, measures_of, most_worth}
-use Rattle.halo_model.specs.EvenTies.{factorial}
 use Rattle.halo_model.specs.FromTables.{lives_of}
 use Rattle.halo_model.specs.Horizon.{horizon, life_at}
 use Rattle.halo_model.specs.Life.{AreLives, after_first}
@@ -29,9 +28,16 @@ use Rattle.halo_model.specs.Value.{denominator, numerator}
 use Rattle.halo_model.proofs.Bounded.{insurance-is-bounded}
 use Rattle.halo_model.proofs.EvenTies.{factorial-some}
 use Rattle.halo_model.proofs.Orders.{orders-count}
+use Rattle.halo_model.specs.SetValue.{all_events}
+use Rattle.halo_life.specs.Lists.{Lists}
 use Rattle.halo_life.specs.PlainGroup.{IsGroup, survivors_in}
+use Rattle.halo_life.specs.Total.{total_of}
+use Rattle.halo_compile.specs.ValidTask.{IsTask}
 use Rattle.halo_compile.specs.declared.task.Task.{Task}
-use Rattle.halo_insure.specs.OfTask.{insured_basis, unit_pay}
+use Rattle.halo_insure.specs.OfTask.{HoldDuesAt, insured_basis, unit_pay}
+use Rattle.halo_insure.specs.Total.{EnclosesInsurance, HoldDues}
+use Rattle.halo_insure.proofs.Tasks.{are-lives, count-lives, end-by, same-insurance, unit-valid}
+use Rattle.halo_insure.proofs.Total.{sets-enclose-value}
 
 -- a value that is at most so many ones
 pub ones-above : (num den most : ℕ) → num ≤ most * den → (pos num *ℤ pos fine) ≤ℤ (pos (most * fine) *ℤ pos den)
@@ -81,5 +87,25 @@ most-is kind e m = rw e refl
 
 pub bounded : (b : Basis) → AreLives b.lives → EndBy b.last_time b.lives → (pay : PlainPay) → IsValidInsurance pay → pay.amount ≡ 1 → (T : ℕ) (S : ℕ → Bool) → numerator b pay T S ≤ greatest_factor pay.vary (horizon b.lives pay.body) * denominator b T S
 bounded b rule end pay is one T S =
-    let once : 1 * greatest_factor pay.vary (horizon b.lives pay.body) ≡ greatest_factor pay.vary (horizon b.lives pay.body) = omega arith in
-    rw (one, once) at (insurance-is-bounded b rule end pay is T S)
+    let once : pay.amount * greatest_factor pay.vary (horizon b.lives pay.body) ≡ greatest_factor pay.vary (horizon b.lives pay.body) = ap (λ (n : ℕ). n * greatest_factor pay.vary (horizon b.lives pay.body)) one ∙ omega arith in
+    subst (λ (most : ℕ). numerator b pay T S ≤ most * denominator b T S) once (insurance-is-bounded b rule end pay is T S)
+
+module _ {n m : ℕ} (task : Task n m) (is : IsTask task) (group : IsGroup n task.group.now) (kind : task.pay.now.kind ≡ Insurance) where
+  -- the total of what is due for all sets encloses the value
+  pub total-encloses : (t alive : ℕ) (lists : Lists) (i : Ends) → HoldDuesAt task t lists → i.lo ≡ (total_of lists m alive).lo → i.hi ≡ (total_of lists m alive).hi → EnclosesInsurance (insured_basis task) (unit_pay task) t alive i
+  total-encloses t alive lists i held lo hi =
+      let b = insured_basis task in
+      let count = count-lives task group in
+      let all = sets-enclose-value b (are-lives task group) (end-by task group) (unit_pay task) (unit-valid task is kind) refl (rw (← is.horizon_is) is.horizon_in) t lists (subst (λ (k : ℕ). HoldDues b (unit_pay task) all_events k t lists) (sym count) held) alive in
+      same-insurance b (unit_pay task) t alive i (total_of lists m alive) lo hi
+      (subst (λ (k : ℕ). EnclosesInsurance b (unit_pay task) t alive (total_of lists k alive)) (ap (λ (k : ℕ). 2 ^ k) count ∙ sym is.sets) all)
+
+  -- and the value is bounded
+  pub task-bounded : (t alive most : ℕ) → most ≡ greatest_factor task.pay.now.vary task.horizon → numerator (insured_basis task) (unit_pay task) t (has_bit alive) ≤ most * denominator (insured_basis task) t (has_bit alive)
+  task-bounded t alive most e =
+      let same : greatest_factor task.pay.now.vary (horizon (insured_basis task).lives (unit_pay task).body) ≡ most = ap (greatest_factor task.pay.now.vary) (sym is.horizon_is) ∙ sym e in
+      subst (λ (k : ℕ). numerator (insured_basis task) (unit_pay task) t (has_bit alive) ≤ k * denominator (insured_basis task) t (has_bit alive)) same
+      (bounded (insured_basis task) (are-lives task group) (end-by task group) (unit_pay task) (unit-valid task is kind) refl t (has_bit alive))
+
+  pub most-of-task : (most : ℕ) → most ≡ greatest_factor task.pay.now.vary task.horizon → most ≡ most_worth task.pay.now.kind (measures_of (insured_basis task) (unit_pay task))
+  most-of-task most e = e ∙ ap (greatest_factor task.pay.now.vary) is.horizon_is ∙ sym (most-is task.pay.now.kind kind (measures_of (insured_basis task) (unit_pay task)))

@@ -13,7 +13,7 @@ use Rattle.halo_status.specs.Naming.{names_life}
 use Rattle.halo_status.specs.Pay.{PlainPay}
 use Rattle.halo_model.specs.Backward.{above_zero, below_zero, lies_in}
 use Rattle.halo_model.specs.Basis.{Basis, taken}
-use Rattle.halo_model.specs.Chance.{IsValidInsurance, asked}
+use Rattle.halo_model.specs.Chance.{asked}
 use Rattle.halo_model.specs.Coefficient.{form}
 use Rattle.halo_model.specs.Horizon.{horizon}
 use Rattle.halo_model.specs.Life.{AreLives, after_first}

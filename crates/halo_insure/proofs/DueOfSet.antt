@@ -1,5 +1,5 @@
 -- What is found to be due in a year is what the form of a set says.
-use Rattle.std.proofs.Common.{◌≡◌, ℕ, suc, ◌*◌, ◌-◌, arith, refl, ap, ◌∙◌, Bool, true, false, cond, ◌&&◌, nat_le, List, ℤ, pos, ◌-ℤ◌}
+use Rattle.std.proofs.Common.{◌≡◌, ℕ, suc, ◌*◌, ◌-◌, arith, refl, ap, ◌∙◌, Bool, true, false, cond, ◌&&◌, nat_le, List, ℤ, ◌-ℤ◌}
 use Rattle.halo_status.specs.Pay.{PlainPay}
 use Rattle.halo_model.specs.Coefficient.{form}
 use Rattle.halo_model.specs.Payment.{factor, payment}

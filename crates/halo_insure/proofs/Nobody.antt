@@ -1,15 +1,13 @@
 -- Where nobody of a set is left, nobody of it leaves and nobody survives.
-use Rattle.std.proofs.Common.{◌≡◌, ℕ, zero, suc, ◌+◌, ◌*◌, ◌≤◌, arith, refl, ap, ◌∙◌, List, [], ◌∷◌, length, get_or, Bool, true, false, cond, nat_eq, nat_lt, ⊎_elim}
-use Rattle.std.proofs.lemmas.Bool.{cases_lt}
+use Rattle.std.proofs.Common.{◌≡◌, ℕ, zero, suc, ◌+◌, ◌*◌, ◌≤◌, arith, refl, ap, ◌∙◌, List, [], ◌∷◌, length, get_or, Bool, true, false, cond, nat_eq, nat_lt}
 use Rattle.std.proofs.lemmas.Nat.{mul-le}
-use Rattle.halo_sums.specs.Sums.{numbers_from, product_over, sum_over}
+use Rattle.halo_sums.specs.Sums.{product_over, sum_over}
 use Rattle.halo_sums.specs.Sets.{in_set}
-use Rattle.halo_sums.proofs.Sums.{sum_over-ext, sum_over-none}
 use Rattle.halo_status.specs.Pay.{PlainPay}
 use Rattle.halo_model.specs.Basis.{Basis, taken}
 use Rattle.halo_model.specs.Chance.{asked}
 use Rattle.halo_model.specs.EvenTies.{YearNumbers, first_leaving, lives_in, number_at}
-use Rattle.halo_model.specs.Life.{AreLives, IsLife, PlainLife, leavers_by}
+use Rattle.halo_model.specs.Life.{AreLives, PlainLife, leavers_by}
 use Rattle.halo_model.specs.Order.{rank_in}
 use Rattle.halo_model.specs.OrderLaws.{no_life}
 use Rattle.halo_model.specs.Outcome.{joint_survivors}

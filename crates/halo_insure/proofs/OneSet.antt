@@ -1,8 +1,8 @@
 -- The recursion for one set, a year at a time.
-use Rattle.std.proofs.Common.{◌≡◌, ℕ, zero, suc, ◌+◌, ◌*◌, ◌-◌, ◌<◌, ◌≤◌, arith, refl, pos, ◌≤ℤ◌, mul-le-mul_left}
+use Rattle.std.proofs.Common.{◌≡◌, ℕ, zero, suc, ◌+◌, ◌*◌, ◌-◌, ◌<◌, ◌≤◌, arith, refl, pos, mul-le-mul_left}
 use Rattle.std.proofs.lemmas.Int.{ints}
 use Rattle.halo_num.specs.Chance.{EnclosesChance}
-use Rattle.halo_num.specs.Ends.{Ends, HasWidth, fine}
+use Rattle.halo_num.specs.Ends.{Ends, HasWidth}
 use Rattle.halo_num.specs.Enclosure.{Encloses}
 use Rattle.halo_model.specs.Basis.{Basis, accumulated}
 use Rattle.halo_insure.specs.declared.due.Due.{Due}

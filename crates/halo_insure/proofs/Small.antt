@@ -22,7 +22,6 @@ use Rattle.halo_model.specs.Payment.{factor, payment}
 use Rattle.halo_model.specs.SetValue.{SomeEvents}
 use Rattle.halo_life.specs.Lists.{Lists}
 use Rattle.halo_life.specs.Total.{AreModest}
-use Rattle.halo_insure.specs.declared.due.Due.{Due}
 use Rattle.halo_insure.specs.Dues.{coefficient_before, due_of, ends_count}
 use Rattle.halo_insure.specs.OneSet.{most_due}
 use Rattle.halo_insure.specs.Total.{HoldDues}

@@ -1,5 +1,5 @@
 -- What a valid task of an insurance says of its lives and its pay.
-use Rattle.std.proofs.Common.{◌≡◌, ℕ, zero, suc, ◌+◌, ◌*◌, ◌-◌, ◌^◌, ◌<◌, ◌≤◌, arith, refl, ap, sym, ◌∙◌, List, [], ◌∷◌, length, get_or, Bool, true, false, cond, nat_lt, ℤ, pos, ⊎_elim}
+use Rattle.std.proofs.Common.{◌≡◌, ℕ, zero, suc, ◌+◌, ◌-◌, ◌^◌, ◌<◌, ◌≤◌, arith, refl, ap, ◌∙◌, List, [], ◌∷◌, length, get_or, Bool, true, false, cond, nat_lt, ℤ, pos, ⊎_elim}
 use Rattle.std.proofs.Math.Nat.{pow-le-pow_right}
 use Rattle.std.proofs.lemmas.Nat.{mul-le}
 use Rattle.std.proofs.lemmas.List.{length-map}
@@ -20,7 +20,6 @@ use Rattle.halo_model.specs.PartLaws.{EndBy}
 use Rattle.halo_insure.specs.Dues.{coefficient_before}
 use Rattle.halo_insure.specs.Total.{EnclosesInsurance}
 use Rattle.halo_status.specs.Pay.{PlainPay, pay_of}
-use Rattle.halo_status.specs.ValidPay.{IsValidPay}
 use Rattle.halo_status.specs.declared.pay.Kind.TheVariants.{Insurance}
 use Rattle.halo_model.specs.Chance.{IsValidInsurance}
 use Rattle.halo_model.specs.Coefficient.{form}
@@ -30,7 +29,7 @@ use Rattle.halo_poly.specs.Poly.{coefficient_at}
 use Rattle.halo_model.specs.FromTables.{HasRow, life_of, lives_of}
 use Rattle.halo_model.specs.Life.{AreLives}
 use Rattle.halo_model.proofs.FromTables.{lives_of-AreLives}
-use Rattle.halo_life.specs.PlainGroup.{IsGroup, PlainGroup}
+use Rattle.halo_life.specs.PlainGroup.{IsGroup}
 use Rattle.halo_life.specs.YearOfSets.{products_of_leavings}
 use Rattle.halo_compile.specs.Form.{HasTime, IsPolyOf}
 use Rattle.halo_compile.proofs.Times.{coefficients-by-mask, time-has-segment}

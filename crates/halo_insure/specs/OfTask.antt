@@ -1,6 +1,5 @@
 -- The values of all sets of the lives of a task.
-use Rattle.std.specs.Prelude.{ℕ, ◌<◌, true}
-use Rattle.halo_sums.specs.Masks.{has_bit}
+use Rattle.std.specs.Prelude.{ℕ}
 use Rattle.halo_status.specs.Pay.{PlainPay, pay_of}
 use Rattle.halo_model.specs.Basis.{Basis}
 use Rattle.halo_model.specs.Enclosed.{of_one}

@@ -1,4 +1,4 @@
-use Rattle.std.proofs.Common.{ℕ, ◌<◌, arith}
+use Rattle.std.proofs.Common.{arith}
 use Rattle.halo_model.specs.SetValue.{all_events}
 use Rattle.halo_insure.specs.OfTask.{insured_basis, unit_pay}
 use Rattle.halo_insure.proofs.Carried.{none-held}

@@ -1,10 +1,5 @@
-use Rattle.std.proofs.Common.{◌≡◌, ℕ, suc, ◌+◌, ◌*◌, ◌-◌, ◌^◌, ◌<◌, ◌≤◌, arith, lit<, refl, sym, ap, subst, ◌∙◌, Bool, true, false, cond, nat_lt, ℤ, pos}
-use Rattle.std.proofs.lemmas.Bool.Decides.{nat_tests}
-use Rattle.halo_sums.specs.Masks.{bits}
-use Rattle.halo_sums.specs.Sets.{size_of}
+use Rattle.std.proofs.Common.{ℕ, suc, ◌^◌, ◌<◌, arith, lit<, refl, ◌∙◌}
 use Rattle.halo_status.specs.Pay.{pay_of}
-use Rattle.halo_model.specs.Coefficient.{form}
-use Rattle.halo_poly.specs.Poly.{coefficient_at}
 use Rattle.halo_insure.specs.OfTask.{insured_basis, unit_pay}
 use Rattle.halo_insure.proofs.Carried.{dues-carried, held-same}
 use Rattle.halo_insure.proofs.Small.{coefficient-room}

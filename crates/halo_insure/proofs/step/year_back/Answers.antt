@@ -1,7 +1,6 @@
-use Rattle.std.proofs.Common.{◌≡◌, ℕ, suc, ◌+◌, ◌^◌, arith, lit<, refl, sym, ap, subst, ◌∙◌}
+use Rattle.std.proofs.Common.{◌≡◌, ℕ, suc, ◌+◌, arith, lit<, refl, sym, subst}
 use Rattle.halo_life.specs.Total.{AreModest}
 use Rattle.halo_model.specs.SetValue.{all_events}
-use Rattle.halo_insure.specs.Dues.{ends_count}
 use Rattle.halo_insure.specs.OfTask.{insured_basis, unit_pay}
 use Rattle.halo_insure.proofs.Small.{dues-modest}
 use Rattle.halo_insure.proofs.step.year_back.Goals as goal

@@ -1,17 +1,12 @@
-use Rattle.std.proofs.Common.{◌≡◌, ℕ, ◌*◌, ◌^◌, ◌≤◌, lit<, arith, refl, ap, sym, subst, ◌∙◌, pos}
+use Rattle.std.proofs.Common.{ℕ, ◌*◌, lit<, arith, refl, ap, sym, subst}
 use Rattle.std.proofs.lemmas.Int.{ints}
-use Rattle.halo_sums.specs.Masks.{has_bit}
 use Rattle.halo_num.specs.Ends.{fine}
-use Rattle.halo_life.specs.Total.{AreModest, total_of}
-use Rattle.halo_model.specs.Counts.{greatest_factor, measures_of, most_worth}
+use Rattle.halo_life.specs.Total.{AreModest}
 use Rattle.halo_model.specs.SetValue.{all_events}
-use Rattle.halo_model.specs.Value.{denominator, numerator}
 use Rattle.halo_insure.specs.OfTask.{insured_basis, unit_pay}
-use Rattle.halo_insure.specs.Total.{EnclosesInsurance}
-use Rattle.halo_insure.proofs.Bounds.{bounded, meets-above, meets-below, most-is, some-denominator}
+use Rattle.halo_insure.proofs.Bounds.{meets-above, meets-below, most-of-task, some-denominator, task-bounded, total-encloses}
 use Rattle.halo_insure.proofs.Small.{dues-modest}
-use Rattle.halo_insure.proofs.Tasks.{are-lives, count-lives, end-by, few-sets, same-insurance, unit-valid}
-use Rattle.halo_insure.proofs.Total.{sets-enclose-value}
+use Rattle.halo_insure.proofs.Tasks.{few-sets}
 use Rattle.halo_insure.proofs.value.value_at.Goals as goal
 
 pub total-total-requires : goal.total-total-requires
@@ -27,14 +22,30 @@ total-total-requires g c =
       ),
     )
 
--- what the total encloses
-total-encloses : (g : _) (c : goal.After-total-total g) → EnclosesInsurance (insured_basis c.args.task.now) (unit_pay c.args.task.now) c.args.t c.args.alive c.total-total.result
-total-encloses g c =
+pub at_most-requires-clause-meets_most : goal.at_most-requires-clause-meets_most
+at_most-requires-clause-meets_most g c =
     let task = c.args.task.now in
-    let is = c.requires.task in
     let group = c.start-start.ensures.group in
-    let b = insured_basis task in
-    let count = count-lives task group in
-    let all = sets-enclose-value b (are-lives task group) (end-by task group) (unit_pay task) (unit-valid task is c.requires.insurance) refl (rw (← is.horizon_is) is.horizon_in) c.args.t c.args.work.now (rw (← count) at c.requires.values) c.args.alive in
-    same-insurance b (unit_pay task) c.args.t c.args.alive c.total-total.result (total_of c.args.work.now g.row.M c.args.alive) c.total-total.ensures.lo c.total-total.ensures.hi
-    (subst (λ (m : ℕ). EnclosesInsurance b (unit_pay task) c.args.t c.args.alive (total_of c.args.work.now m c.args.alive)) (sym is.sets) (rw count at all))
+    let all = total-encloses task c.requires.task group c.requires.insurance c.args.t c.args.alive c.args.work.now c.total-total.result c.requires.values c.total-total.ensures.lo c.total-total.ensures.hi in
+    meets-above c.total-total.result _ _ c.greatest_factor.result (some-denominator task group c.fractions-fractions.ensures.interest c.args.t c.args.alive c.requires.alive) all.encloses
+    (task-bounded task c.requires.task group c.requires.insurance c.args.t c.args.alive c.greatest_factor.result c.greatest_factor.ensures)
+
+pub at_most-requires-clause-meets_none : goal.at_most-requires-clause-meets_none
+at_most-requires-clause-meets_none g c =
+    let task = c.args.task.now in
+    let group = c.start-start.ensures.group in
+    let all = total-encloses task c.requires.task group c.requires.insurance c.args.t c.args.alive c.args.work.now c.total-total.result c.requires.values c.total-total.ensures.lo c.total-total.ensures.hi in
+    meets-below c.total-total.result _ _ (some-denominator task group c.fractions-fractions.ensures.interest c.args.t c.args.alive c.requires.alive) all.encloses
+
+pub returns : goal.returns
+returns g c =
+    let task = c.args.task.now in
+    let group = c.start-start.ensures.group in
+    let all = total-encloses task c.requires.task group c.requires.insurance c.args.t c.args.alive c.args.work.now c.total-total.result c.requires.values c.total-total.ensures.lo c.total-total.ensures.hi in
+    let most = most-of-task task c.requires.task group c.requires.insurance c.greatest_factor.result c.greatest_factor.ensures in
+    let high = ap (λ (n : ℕ). n * fine) most in
+    record {
+      encloses = c.at_most.ensures.encloses _ _ (task-bounded task c.requires.task group c.requires.insurance c.args.t c.args.alive c.greatest_factor.result c.greatest_factor.ensures) all.encloses;
+      narrow = c.at_most.ensures.narrow _ all.narrow;
+      within = record { low = c.at_most.ensures.within.low; high = omega (arith, ints, c.at_most.ensures.within.high, high) };
+    }
