@@ -44,8 +44,10 @@ pub ones-above : (num den most : ℕ) → num ≤ most * den → (pos num *ℤ p
 ones-above num den most h = let m : num * fine ≤ most * den * fine = mul-le-mul_right fine h in omega (arith, ints, m)
 
 -- its enclosure meets the bounds
-pub meets-above : (i : Ends) (num den most : ℕ) → 0 < den → Encloses i (pos num) den → num ≤ most * den → i.lo ≤ℤ pos (most * fine)
-meets-above i num den most some e h = le_of_mul_pos i.lo (pos (most * fine)) den some (le_trans (i.lo *ℤ pos den) (pos num *ℤ pos fine) (pos (most * fine) *ℤ pos den) e.low (ones-above num den most h))
+pub meets-above : (i : Ends) (num den most : ℕ)
+    → 0 < den → Encloses i (pos num) den → num ≤ most * den → i.lo ≤ℤ pos (most * fine)
+meets-above i num den most some e h = le_of_mul_pos i.lo (pos (most * fine)) den some
+    (le_trans (i.lo *ℤ pos den) (pos num *ℤ pos fine) (pos (most * fine) *ℤ pos den) e.low (ones-above num den most h))
 
 pub meets-below : (i : Ends) (num den : ℕ) → 0 < den → Encloses i (pos num) den → pos 0 ≤ℤ i.hi
 meets-below i num den some e = le_of_mul_pos (pos 0) i.hi den some (omega (arith, ints, e.high))
@@ -59,53 +61,78 @@ some-orders all_orders n =
     omega (arith, count, each, factorial-some (length (numbers_from 0 n)))
 
 -- somebody survives of lives of whom each has survivors
-some-survive : (file : TableFile) (T : ℕ) (U : ℕ → Bool) (lives : List Life) → ((i : ℕ) → i < length lives → U i ≡ true → 0 < survivors_at file (life_at lives i).table ((life_at lives i).age + T))
+some-survive : (file : TableFile) (T : ℕ) (U : ℕ → Bool) (lives : List Life) → ((i : ℕ)
+    → i < length lives → U i ≡ true → 0 < survivors_at file (life_at lives i).table ((life_at lives i).age + T))
     → 0 < joint_survivors T U (lives_of file lives)
 some-survive file T U [] h = omega arith
-some-survive file T U (x ∷ lives) h = mul-pos (first (U 0) (h 0 (omega arith))) (some-survive file T (after_first U) lives (λ i below. h (suc i) (omega (arith, below))))
+some-survive file T U (x ∷ lives) h = mul-pos (first (U 0) (h 0 (omega arith)))
+    (some-survive file T (after_first U) lives (λ i below. h (suc i) (omega (arith, below))))
   where
-    first : (is : Bool) → (is ≡ true → 0 < survivors_at file x.table (x.age + T)) → 0 < cond is (survivors_at file x.table (x.age + T)) 1
+    first : (is : Bool) → (is ≡ true → 0 < survivors_at file x.table (x.age + T))
+        → 0 < cond is (survivors_at file x.table (x.age + T)) 1
     first true k = k refl
     first false k = omega arith
 
 -- 1 is worth something with interest
-some-interest : (p q : ℕ → ℕ) → ((k : ℕ) → 1 ≤ q k) → (count first : ℕ) → 0 < product_over (numbers_from first count) (λ k. p k + q k)
+some-interest : (p q : ℕ → ℕ)
+    → ((k : ℕ) → 1 ≤ q k) → (count first : ℕ) → 0 < product_over (numbers_from first count) (λ k. p k + q k)
 some-interest p q h zero first = omega arith
 some-interest p q h (suc count) first = mul-pos (omega (arith, h first)) (some-interest p q h count (suc first))
 
-pub some-denominator : {n m : ℕ} (task : Task n m) → IsGroup n task.group.now → IsInterest task.interest.now → (t alive : ℕ) → ((i : ℕ) → i < n → has_bit alive i ≡ true → 0 < survivors_in task.group.now t i)
+pub some-denominator : {n m : ℕ} (task : Task n m) → IsGroup n task.group.now → IsInterest task.interest.now
+    → (t alive : ℕ) → ((i : ℕ) → i < n → has_bit alive i ≡ true → 0 < survivors_in task.group.now t i)
     → 0 < denominator (insured_basis task) t (has_bit alive)
 unfolding denominator
-some-denominator {n} {m} task group interest t alive living = mul-pos (some-orders task.group.now.ties (length (insured_basis task).lives)) (mul-pos
-    (some-survive task.group.now.file t (has_bit alive) task.group.now.lives (λ i below. living i (omega (arith, below, group.count))))
-    (some-interest (λ k. (rate_of task.interest.now k).p) (λ k. (rate_of task.interest.now k).q) (λ k. (in_force_is task.interest.now interest k).q_from) (200 - t) t))
+some-denominator {n} {m} task group interest t alive living =
+    mul-pos (some-orders task.group.now.ties (length (insured_basis task).lives)) (mul-pos
+    (some-survive task.group.now.file t
+    (has_bit alive) task.group.now.lives (λ i below. living i (omega (arith, below, group.count))))
+    (some-interest (λ k. (rate_of task.interest.now k).p)
+    (λ k. (rate_of task.interest.now k).q) (λ k. (in_force_is task.interest.now interest k).q_from) (200 - t) t))
 
 -- the most that it can be worth
 pub most-is : (kind : Kind) → kind ≡ Insurance → (m : Measures) → most_worth kind m ≡ m.factor
 unfolding most_worth
 most-is kind e m = rw e refl
 
-pub bounded : (b : Basis) → AreLives b.lives → EndBy b.last_time b.lives → (pay : PlainPay) → IsValidInsurance pay → pay.amount ≡ 1 → (T : ℕ) (S : ℕ → Bool) → numerator b pay T S ≤ greatest_factor pay.vary (horizon b.lives pay.body) * denominator b T S
+pub bounded : (b : Basis) → AreLives b.lives
+    → EndBy b.last_time b.lives → (pay : PlainPay) → IsValidInsurance pay → pay.amount ≡ 1 → (T : ℕ) (S : ℕ → Bool)
+    → numerator b pay T S ≤ greatest_factor pay.vary (horizon b.lives pay.body) * denominator b T S
 bounded b rule end pay is one T S =
-    let once : pay.amount * greatest_factor pay.vary (horizon b.lives pay.body) ≡ greatest_factor pay.vary (horizon b.lives pay.body) = ap (λ (n : ℕ). n * greatest_factor pay.vary (horizon b.lives pay.body)) one ∙ omega arith in
-    subst (λ (most : ℕ). numerator b pay T S ≤ most * denominator b T S) once (insurance-is-bounded b rule end pay is T S)
+    let once : pay.amount * greatest_factor pay.vary (horizon b.lives pay.body)
+    ≡ greatest_factor pay.vary (horizon b.lives pay.body) =
+    ap (λ (n : ℕ). n * greatest_factor pay.vary (horizon b.lives pay.body)) one ∙ omega arith in
+    subst
+    (λ (most : ℕ). numerator b pay T S ≤ most * denominator b T S) once (insurance-is-bounded b rule end pay is T S)
 
-module _ {n m : ℕ} (task : Task n m) (is : IsTask task) (group : IsGroup n task.group.now) (kind : task.pay.now.kind ≡ Insurance) where
+module _ {n m : ℕ}
+    (task : Task n m) (is : IsTask task) (group : IsGroup n task.group.now) (kind : task.pay.now.kind ≡ Insurance) where
   -- the total of what is due for all sets encloses the value
-  pub total-encloses : (t alive : ℕ) (lists : Lists) (i : Ends) → HoldDuesAt task t lists → i.lo ≡ (total_of lists m alive).lo → i.hi ≡ (total_of lists m alive).hi → EnclosesInsurance (insured_basis task) (unit_pay task) t alive i
+  pub total-encloses : (t alive : ℕ) (lists : Lists) (i : Ends)
+      → HoldDuesAt task t lists → i.lo ≡ (total_of lists m alive).lo
+      → i.hi ≡ (total_of lists m alive).hi → EnclosesInsurance (insured_basis task) (unit_pay task) t alive i
   total-encloses t alive lists i held lo hi =
       let b = insured_basis task in
       let count = count-lives task group in
-      let all = sets-enclose-value b (are-lives task group) (end-by task group) (unit_pay task) (unit-valid task is kind) refl (rw (← is.horizon_is) is.horizon_in) t lists (subst (λ (k : ℕ). HoldDues b (unit_pay task) all_events k t lists) (sym count) held) alive in
+      let all = sets-enclose-value b (are-lives task group) (end-by task group)
+      (unit_pay task) (unit-valid task is kind) refl (rw (← is.horizon_is) is.horizon_in) t lists
+      (subst (λ (k : ℕ). HoldDues b (unit_pay task) all_events k t lists) (sym count) held) alive in
       same-insurance b (unit_pay task) t alive i (total_of lists m alive) lo hi
-      (subst (λ (k : ℕ). EnclosesInsurance b (unit_pay task) t alive (total_of lists k alive)) (ap (λ (k : ℕ). 2 ^ k) count ∙ sym is.sets) all)
+      (subst (λ (k : ℕ). EnclosesInsurance b (unit_pay task) t alive (total_of lists k alive))
+      (ap (λ (k : ℕ). 2 ^ k) count ∙ sym is.sets) all)
 
   -- and the value is bounded
-  pub task-bounded : (t alive most : ℕ) → most ≡ greatest_factor task.pay.now.vary task.horizon → numerator (insured_basis task) (unit_pay task) t (has_bit alive) ≤ most * denominator (insured_basis task) t (has_bit alive)
+  pub task-bounded : (t alive most : ℕ) → most ≡ greatest_factor task.pay.now.vary task.horizon → numerator
+      (insured_basis task) (unit_pay task) t (has_bit alive) ≤ most * denominator (insured_basis task) t (has_bit alive)
   task-bounded t alive most e =
-      let same : greatest_factor task.pay.now.vary (horizon (insured_basis task).lives (unit_pay task).body) ≡ most = ap (greatest_factor task.pay.now.vary) (sym is.horizon_is) ∙ sym e in
-      subst (λ (k : ℕ). numerator (insured_basis task) (unit_pay task) t (has_bit alive) ≤ k * denominator (insured_basis task) t (has_bit alive)) same
-      (bounded (insured_basis task) (are-lives task group) (end-by task group) (unit_pay task) (unit-valid task is kind) refl t (has_bit alive))
+      let same : greatest_factor task.pay.now.vary (horizon (insured_basis task).lives (unit_pay task).body) ≡ most =
+      ap (greatest_factor task.pay.now.vary) (sym is.horizon_is) ∙ sym e in
+      subst (λ (k : ℕ). numerator (insured_basis task) (unit_pay task) t (has_bit alive)
+      ≤ k * denominator (insured_basis task) t (has_bit alive)) same
+      (bounded (insured_basis task)
+      (are-lives task group) (end-by task group) (unit_pay task) (unit-valid task is kind) refl t (has_bit alive))
 
-  pub most-of-task : (most : ℕ) → most ≡ greatest_factor task.pay.now.vary task.horizon → most ≡ most_worth task.pay.now.kind (measures_of (insured_basis task) (unit_pay task))
-  most-of-task most e = e ∙ ap (greatest_factor task.pay.now.vary) is.horizon_is ∙ sym (most-is task.pay.now.kind kind (measures_of (insured_basis task) (unit_pay task)))
+  pub most-of-task : (most : ℕ) → most ≡ greatest_factor task.pay.now.vary task.horizon
+      → most ≡ most_worth task.pay.now.kind (measures_of (insured_basis task) (unit_pay task))
+  most-of-task most e = e ∙ ap (greatest_factor task.pay.now.vary) is.horizon_is
+      ∙ sym (most-is task.pay.now.kind kind (measures_of (insured_basis task) (unit_pay task)))

@@ -41,7 +41,12 @@ use Rattle.halo_insure.proofs.Silent.{silent-form}
 
 -- a chance told in more parts
 chance-scaled : (n d w k : ℕ) (i : Ends) → EnclosesChance n d w i → EnclosesChance (k * n) (k * d) w i
-chance-scaled n d w k i c = record { encloses = encloses_at i (pos n) (pos (k * n)) d (k * d) k c.encloses (ap pos (mul_comm k n)) (mul_comm k d); narrow = c.narrow; within = c.within }
+chance-scaled n d w k i c = record {
+  encloses = encloses_at i (pos n)
+      (pos (k * n)) d (k * d) k c.encloses (ap pos (mul_comm k n)) (mul_comm k d);
+  narrow = c.narrow;
+  within = c.within;
+}
 
 -- a set that does not lie in another has a life that is not in it
 has-other : (s : List Bool) (U : ℕ → Bool) → lies_in s U ≡ false → (a : ℕ) × (in_set s a ≡ true) × (U a ≡ false)
@@ -49,15 +54,18 @@ has-other [] U e = absurd (cc)
 has-other (false ∷ s) U e = let h = has-other s (after_first U) e in (suc h.0, h.1, h.2)
 has-other (true ∷ s) U e = by-first (U 0) refl e (λ h. has-other s (after_first U) h)
   where
-    by-first : (is : Bool) → U 0 ≡ is → (is && lies_in s (after_first U)) ≡ false → (lies_in s (after_first U) ≡ false → (a : ℕ) × (in_set s a ≡ true) × (U (suc a) ≡ false))
+    by-first : (is : Bool) → U 0 ≡ is → (is && lies_in s (after_first U)) ≡ false
+        → (lies_in s (after_first U) ≡ false → (a : ℕ) × (in_set s a ≡ true) × (U (suc a) ≡ false))
         → (a : ℕ) × (in_set (true ∷ s) a ≡ true) × (U a ≡ false)
     by-first false f g rest = (0, refl, f)
     by-first true f g rest = let h = rest g in (suc h.0, h.1, h.2)
 
 -- where a form has no coefficient nothing is due
-module _ (part : ℤ → ℕ) (none : part (pos 0) ≡ 0) (pay : PlainPay) (events : SomeEvents) (years : ℕ) (s : List Bool) (silent : (t : ℕ) → form pay t s ≡ pos 0) where
+module _ (part : ℤ → ℕ) (none : part (pos 0) ≡ 0)
+    (pay : PlainPay) (events : SomeEvents) (years : ℕ) (s : List Bool) (silent : (t : ℕ) → form pay t s ≡ pos 0) where
   silent-year : (k : ℕ) → (due_of part pay events years s k).on_leaving + (due_of part pay events years s k).at_end ≡ 0
-  silent-year k = rw (silent k, lost (nat_lt (suc k) years), none) (both (nat_le pay.defer k) (nat_le pay.defer k && ends_count pay events (suc k)) (payment pay (k - pay.defer)))
+  silent-year k = rw (silent k, lost (nat_lt (suc k) years), none)
+      (both (nat_le pay.defer k) (nat_le pay.defer k && ends_count pay events (suc k)) (payment pay (k - pay.defer)))
     where
       lost : (b : Bool) → pos 0 -ℤ cond b (form pay (suc k) s) (pos 0) ≡ pos 0
       lost true = rw (silent (suc k)) (omega (arith, ints))
@@ -73,46 +81,70 @@ module _ (part : ℤ → ℕ) (none : part (pos 0) ≡ 0) (pay : PlainPay) (even
   silent-most zero k = refl
   silent-most (suc more) k = omega (arith, silent-year k, silent-most more (suc k))
 
-module _ {m : ℕ} (n : ℕ) (sets : m ≡ 2 ^ n) (b : Basis) (rule : AreLives b.lives) (pay : PlainPay) (one : pay.amount ≡ 1) (events : SomeEvents) (count : length b.lives ≡ n) (k : ℕ) (in_time : horizon b.lives pay.body ≤ b.last_time) (now : k < horizon b.lives pay.body)
-    (year : Year m) (discounts : Encloses year.discount (pos (b.q k)) (b.p k + b.q k)) (narrow : HasWidth year.discount 1)
-    (pays : year.pays.payment ≡ cond (nat_le pay.defer k) (factor pay.vary (k - pay.defer)) 0) (ends : year.pays.ends ≡ ends_count pay events (suc k))
+module _ {m : ℕ} (n : ℕ) (sets : m ≡ 2 ^ n) (b : Basis)
+    (rule : AreLives b.lives) (pay : PlainPay) (one : pay.amount ≡ 1) (events : SomeEvents) (count : length b.lives ≡ n)
+    (k : ℕ) (in_time : horizon b.lives pay.body ≤ b.last_time) (now : k < horizon b.lives pay.body)
+    (year : Year m)
+    (discounts : Encloses year.discount (pos (b.q k)) (b.p k + b.q k)) (narrow : HasWidth year.discount 1)
+    (pays : year.pays.payment ≡ cond (nat_le pay.defer k) (factor pay.vary (k - pay.defer)) 0)
+    (ends : year.pays.ends ≡ ends_count pay events (suc k))
     (here : (mask : ℕ) → mask < 2 ^ n → coefficient_at year.here.now mask ≡ form pay k (bits n mask))
-    (next : (mask : ℕ) → mask < 2 ^ n → next_coefficient year mask ≡ coefficient_before pay (horizon b.lives pay.body) (suc k) (bits n mask))
-    (named counted : ℕ) (names : (i : ℕ) → has_bit named i ≡ names_life i pay.body) (counting : (i : ℕ) → has_bit counted i ≡ counts pay events i)
-    (before after : Lists) (survive : EncloseSurvivals n b.lives k named before.survivals) (leave : EncloseLeavings b.ties n b.lives k named counted (asked pay.causes) before.leavings)
+    (next : (mask : ℕ) → mask < 2 ^ n
+    → next_coefficient year mask ≡ coefficient_before pay (horizon b.lives pay.body) (suc k) (bits n mask))
+    (named counted : ℕ) (names : (i : ℕ) → has_bit named i ≡ names_life i pay.body)
+    (counting : (i : ℕ) → has_bit counted i ≡ counts pay events i)
+    (before after : Lists) (survive : EncloseSurvivals n b.lives k named before.survivals)
+    (leave : EncloseLeavings b.ties n b.lives k named counted (asked pay.causes) before.leavings)
     (back : SetsGoBack year named before after) where
   abbrev H : ℕ
   H = horizon b.lives pay.body
 
   -- the chances of a set
-  set-survives : (mask : ℕ) → mask < 2 ^ n → is_within mask named ≡ true → EnclosesChance (set_survivors b (bits n mask) (suc k)) (set_survivors b (bits n mask) k) (2 * size_of (bits n mask)) (entry before.survivals mask)
+  set-survives : (mask : ℕ)
+      → mask < 2 ^ n → is_within mask named ≡ true → EnclosesChance (set_survivors b (bits n mask) (suc k))
+      (set_survivors b (bits n mask) k) (2 * size_of (bits n mask)) (entry before.survivals mask)
   set-survives mask below inside = chance-scaled _ _ _ (length (taken b)) _ (survive mask below inside)
 
-  set-leaves : (mask : ℕ) → mask < 2 ^ n → is_within mask named ≡ true → EnclosesChance (set_leavings b pay events (bits n mask) k) (set_survivors b (bits n mask) k) (4 * size_of (bits n mask)) (entry before.leavings mask)
+  set-leaves : (mask : ℕ)
+      → mask < 2 ^ n → is_within mask named ≡ true → EnclosesChance (set_leavings b pay events (bits n mask) k)
+      (set_survivors b (bits n mask) k) (4 * size_of (bits n mask)) (entry before.leavings mask)
   set-leaves mask below inside =
       let same : has_bit counted ≡ counts pay events = fun_ext counting in
-      let P : (ℕ → Bool) → ℕ → Type 0 = λ c l. EnclosesChance (leavings_of_set b.ties l (year_numbers c (asked pay.causes) b.lives k) (in_set (bits n mask))) (length (orders_taken b.ties l) * joint_survivors k (in_set (bits n mask)) b.lives) (4 * size_of (bits n mask)) (entry before.leavings mask) in
-      subst (λ (c : ℕ → Bool). P c (length b.lives)) same (subst (λ (l : ℕ). P (has_bit counted) l) (sym count) (leave mask below inside))
+      let P : (ℕ → Bool) → ℕ → Type 0 = λ c l. EnclosesChance
+      (leavings_of_set b.ties l (year_numbers c (asked pay.causes) b.lives k) (in_set (bits n mask)))
+      (length (orders_taken b.ties l) * joint_survivors k (in_set (bits n mask)) b.lives)
+      (4 * size_of (bits n mask)) (entry before.leavings mask) in
+      subst (λ (c : ℕ → Bool). P c (length b.lives)) same
+      (subst (λ (l : ℕ). P (has_bit counted) l) (sym count) (leave mask below inside))
 
   -- a set of named lives
-  set-carried : (part : ℤ → ℕ) (mask : ℕ) → mask < 2 ^ n → is_within mask named ≡ true → (later result : Ends) → SetGoesBack part year before mask later result
+  set-carried : (part : ℤ → ℕ) (mask : ℕ) → mask < 2 ^ n
+      → is_within mask named ≡ true → (later result : Ends) → SetGoesBack part year before mask later result
       → EnclosesSet part b pay events (bits n mask) (suc k) later → EnclosesSet part b pay events (bits n mask) k result
   set-carried part mask below inside later result goes held =
       let s : List Bool = bits n mask in
-      let due = due-of-form part pay one events H s k year.pays.payment year.pays.ends (coefficient_at year.here.now mask) (next_coefficient year mask) pays ends (here mask below) (next mask below) in
+      let due =
+      due-of-form part pay one events H s k year.pays.payment year.pays.ends (coefficient_at year.here.now mask)
+      (next_coefficient year mask) pays ends (here mask below) (next mask below) in
       let years : suc (H - suc k) ≡ H - k = omega (arith, now) in
       let two : 2 * size_of s ≤ 4 * size_of s = omega arith in
-      subst (λ (y : ℕ). EnclosesDues b (set_leavings b pay events s) (set_survivors b s) (due_of part pay events H s) (4 * size_of s) k y result) years
-      (year-more b (set_leavings b pay events s) (set_survivors b s) (end-with-nobody b rule pay events s (length-bits n mask ∙ sym count)) (due_of part pay events H s) (4 * size_of s) k (H - suc k) (4 * size_of s) (2 * size_of s) later result (entry before.leavings mask) (entry before.survivals mask) year.discount
-      (omega (arith, now, in_time)) (omega arith) two (set-leaves mask below inside) (set-survives mask below inside) discounts narrow (rw due at goes) held)
+      subst (λ (y : ℕ). EnclosesDues b (set_leavings b pay events s)
+      (set_survivors b s) (due_of part pay events H s) (4 * size_of s) k y result) years
+      (year-more b (set_leavings b pay events s) (set_survivors b s) (end-with-nobody b rule pay events s
+      (length-bits n mask ∙ sym count)) (due_of part pay events H s) (4 * size_of s) k (H - suc k) (4 * size_of s)
+      (2 * size_of s) later result (entry before.leavings mask) (entry before.survivals mask) year.discount
+      (omega (arith, now, in_time)) (omega arith) two
+      (set-leaves mask below inside) (set-survives mask below inside) discounts narrow (rw due at goes) held)
 
   -- a set with a life that is not named
-  set-silent : (part : ℤ → ℕ) → part (pos 0) ≡ 0 → (mask : ℕ) → mask < 2 ^ n → is_within mask named ≡ false → (result : Ends) → result ≡ nothing → EnclosesSet part b pay events (bits n mask) k result
+  set-silent : (part : ℤ → ℕ) → part (pos 0) ≡ 0 → (mask : ℕ) → mask < 2 ^ n → is_within mask named ≡ false
+      → (result : Ends) → result ≡ nothing → EnclosesSet part b pay events (bits n mask) k result
   set-silent part none mask below outside result empty =
       let s : List Bool = bits n mask in
       let other = has-other s (has_bit named) (sym (within-is n mask named below) ∙ outside) in
       let silent = λ (t : ℕ). silent-form pay t other.0 s other.1 (sym (names other.0) ∙ other.2) in
-      nothing-due b (set_leavings b pay events s) (set_survivors b s) (due_of part pay events H s) (4 * size_of s) k (H - k) result (silent-most part none pay events H s silent (H - k) k) (rw empty refl) (rw empty refl)
+      nothing-due b (set_leavings b pay events s) (set_survivors b s) (due_of part pay events H s) (4 * size_of s) k
+      (H - k) result (silent-most part none pay events H s silent (H - k) k) (rw empty refl) (rw empty refl)
 
   pub dues-carried : HoldDues b pay events n (suc k) before → HoldDues b pay events n k after
   dues-carried held mask below = by-case (is_within mask named) refl
@@ -120,19 +152,31 @@ module _ {m : ℕ} (n : ℕ) (sets : m ≡ 2 ^ n) (b : Basis) (rule : AreLives b
       inside : (mask : ℕ) → mask < 2 ^ n → mask < m
       inside mask h = omega (arith, sets, h)
 
-      by-case : (is : Bool) → is_within mask named ≡ is → EnclosesSet above_zero b pay events (bits n mask) k (entry after.plus mask) × EnclosesSet below_zero b pay events (bits n mask) k (entry after.minus mask)
-      by-case true e = (set-carried above_zero mask below e _ _ (back.plus mask (inside mask below) e) (held mask below).0, set-carried below_zero mask below e _ _ (back.minus mask (inside mask below) e) (held mask below).1)
-      by-case false e = (set-silent above_zero refl mask below e _ ((back.none mask (inside mask below) e).0), set-silent below_zero refl mask below e _ ((back.none mask (inside mask below) e).1))
+      by-case : (is : Bool) → is_within mask named ≡ is → EnclosesSet above_zero b pay events (bits n mask) k
+          (entry after.plus mask) × EnclosesSet below_zero b pay events (bits n mask) k (entry after.minus mask)
+      by-case true e = (
+        set-carried above_zero mask below e _ _ (back.plus mask (inside mask below) e) (held mask below).0,
+        set-carried below_zero mask below e _ _ (back.minus mask (inside mask below) e) (held mask below).1,
+      )
+      by-case false e = (
+        set-silent above_zero refl mask below e _ ((back.none mask (inside mask below) e).0),
+        set-silent below_zero refl mask below e _ ((back.none mask (inside mask below) e).1),
+      )
 
 -- at the horizon nothing is due any more
-pub none-held : (b : Basis) (pay : PlainPay) (events : SomeEvents) (n t : ℕ) (lists : Lists) → horizon b.lives pay.body ≤ t → ((mask : ℕ) → mask < 2 ^ n → entry lists.plus mask ≡ nothing) → ((mask : ℕ) → mask < 2 ^ n → entry lists.minus mask ≡ nothing) → HoldDues b pay events n t lists
+pub none-held : (b : Basis) (pay : PlainPay) (events : SomeEvents) (n t : ℕ) (lists : Lists)
+    → horizon b.lives pay.body ≤ t → ((mask : ℕ) → mask < 2 ^ n → entry lists.plus mask ≡ nothing)
+    → ((mask : ℕ) → mask < 2 ^ n → entry lists.minus mask ≡ nothing) → HoldDues b pay events n t lists
 none-held b pay events n t lists past plus minus mask below =
     let years : horizon b.lives pay.body - t ≡ 0 = omega (arith, past) in
     let none : (due : ℕ → Due) → most_due due t (horizon b.lives pay.body - t) ≡ 0 = λ due. rw years refl in (
-      nothing-due b _ _ _ _ t _ (entry lists.plus mask) (none _) (rw (plus mask below) refl) (rw (plus mask below) refl),
-      nothing-due b _ _ _ _ t _ (entry lists.minus mask) (none _) (rw (minus mask below) refl) (rw (minus mask below) refl),
+      nothing-due b _ _ _ _ t _
+          (entry lists.plus mask) (none _) (rw (plus mask below) refl) (rw (plus mask below) refl),
+      nothing-due b _ _ _ _ t _
+          (entry lists.minus mask) (none _) (rw (minus mask below) refl) (rw (minus mask below) refl),
     )
 
 -- lists with the same values hold the same
-pub held-same : (b : Basis) (pay : PlainPay) (events : SomeEvents) (n t : ℕ) (lists others : Lists) → others.plus ≡ lists.plus → others.minus ≡ lists.minus → HoldDues b pay events n t lists → HoldDues b pay events n t others
+pub held-same : (b : Basis) (pay : PlainPay) (events : SomeEvents) (n t : ℕ) (lists others : Lists) → others.plus
+    ≡ lists.plus → others.minus ≡ lists.minus → HoldDues b pay events n t lists → HoldDues b pay events n t others
 held-same b pay events n t lists others plus minus held mask below = rw (plus, minus) (held mask below)

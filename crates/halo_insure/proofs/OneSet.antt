@@ -23,7 +23,8 @@ module _ (b : Basis) (leaving alive : ℕ → ℕ) (ended : (k : ℕ) → EndWit
   wider : (r : Ends) (v w : ℕ) → v ≤ w → HasWidth r v → HasWidth r w
   wider r v w h p = record { near = let k = p.near in omega (arith, ints) }
 
-  years-wide : (d years less more : ℕ) → less ≤ more → years * ((d + 3) * less) + (d + 3) * more ≤ suc years * ((d + 3) * more)
+  years-wide : (d years less more : ℕ)
+      → less ≤ more → years * ((d + 3) * less) + (d + 3) * more ≤ suc years * ((d + 3) * more)
   years-wide d years less more h =
       let a : (d + 3) * less ≤ (d + 3) * more = mul-le-mul_left (d + 3) h in
       let c : years * ((d + 3) * less) ≤ years * ((d + 3) * more) = mul-le-mul_left years a in
@@ -32,14 +33,21 @@ module _ (b : Basis) (leaving alive : ℕ → ℕ) (ended : (k : ℕ) → EndWit
   -- a year back
   pub year-more : (d k years v w : ℕ) (later result leave survive discount : Ends) → k < b.last_time → v ≤ d → w ≤ d
       → EnclosesChance (leaving k) (alive k) v leave → EnclosesChance (alive (suc k)) (alive k) w survive
-      → Encloses discount (pos (b.q k)) (b.p k + b.q k) → HasWidth discount 1 → GoesBack later leave survive discount (due k) result
+      → Encloses discount (pos (b.q k)) (b.p k + b.q k)
+      → HasWidth discount 1 → GoesBack later leave survive discount (due k) result
       → EnclosesDues b leaving alive due d (suc k) years later → EnclosesDues b leaving alive due d k (suc years) result
-  year-more d k years v w later result leave survive discount within narrow_v narrow_w leaves survives enclosed one back after = record {
-    encloses = rw (accumulated-back b k within) (back.encloses (leaving k) (alive (suc k)) (alive k) (worth_of_dues b leaving alive due (suc k) years) (accumulated b (suc k)) (b.q k) (b.p k + b.q k) leaves.encloses survives.encloses enclosed after.encloses (nothing-worth years (suc k)));
-    from = back.from;
-    bound = back.bound (most_due due (suc k) years) after.bound;
-    narrow = wider result _ _ (years-wide d years (most_due due (suc k) years) (most_due due k (suc years)) (omega arith)) (back.narrow (most_due due (suc k) years) (years * ((d + 3) * most_due due (suc k) years)) d after.bound after.narrow (wider leave v d narrow_v leaves.narrow) (wider survive w d narrow_w survives.narrow) one);
-  }
+  year-more d k years v
+      w later result leave survive discount within narrow_v narrow_w leaves survives enclosed one back after = record {
+        encloses = rw (accumulated-back b k within) (back.encloses (leaving k)
+            (alive (suc k)) (alive k) (worth_of_dues b leaving alive due (suc k) years) (accumulated b (suc k)) (b.q k)
+            (b.p k + b.q k) leaves.encloses survives.encloses enclosed after.encloses (nothing-worth years (suc k)));
+        from = back.from;
+        bound = back.bound (most_due due (suc k) years) after.bound;
+        narrow =
+            wider result _ _ (years-wide d years (most_due due (suc k) years) (most_due due k (suc years)) (omega arith))
+            (back.narrow (most_due due (suc k) years) (years * ((d + 3) * most_due due (suc k) years)) d after.bound
+            after.narrow (wider leave v d narrow_v leaves.narrow) (wider survive w d narrow_w survives.narrow) one);
+      }
 
 -- where nothing is due, exactly nothing is what is due
 module _ (b : Basis) (leaving alive : ℕ → ℕ) (due : ℕ → Due) where
@@ -51,9 +59,11 @@ module _ (b : Basis) (leaving alive : ℕ → ℕ) (due : ℕ → Due) where
       let later = no-worth years (suc k) (omega (arith, none)) in
       rw (now, end, later) (omega arith)
 
-  pub nothing-due : (d k years : ℕ) (i : Ends) → most_due due k years ≡ 0 → i.lo ≡ pos 0 → i.hi ≡ pos 0 → EnclosesDues b leaving alive due d k years i
+  pub nothing-due : (d k years : ℕ) (i : Ends)
+      → most_due due k years ≡ 0 → i.lo ≡ pos 0 → i.hi ≡ pos 0 → EnclosesDues b leaving alive due d k years i
   nothing-due d k years i none low high = record {
-    encloses = rw (no-worth years k none) (record { low = rw low (omega (arith, ints)); high = rw high (omega (arith, ints)) });
+    encloses = rw (no-worth years k none)
+        (record { low = rw low (omega (arith, ints)); high = rw high (omega (arith, ints)) });
     from = omega (arith, ints, low);
     bound = omega (arith, ints, high);
     narrow = record { near = rw (low, high) (omega (arith, ints)) };

@@ -9,7 +9,8 @@ use Rattle.halo_num.proofs.Enclosures.{encloses_at, encloses_reduced}
 use Rattle.halo_sums.proofs.Integers.{mul_le_pos}
 
 -- a multiple of what is not above one
-pub multiple-bound : (r a : Ends) (count : ℕ) → r.hi ≡ int_max (a.lo *ℤ pos count) (a.hi *ℤ pos count) → a.lo ≤ℤ a.hi → a.hi ≤ℤ pos fine → r.hi ≤ℤ pos (count * fine)
+pub multiple-bound : (r a : Ends) (count : ℕ) → r.hi ≡ int_max (a.lo *ℤ pos count) (a.hi *ℤ pos count)
+    → a.lo ≤ℤ a.hi → a.hi ≤ℤ pos fine → r.hi ≤ℤ pos (count * fine)
 multiple-bound r a count e order within =
     let x = mul_le_pos a.hi (pos fine) count within in
     let y = mul_le_pos a.lo a.hi count order in
@@ -26,35 +27,45 @@ pub sized : (count : ℕ) → IsSized (pos count) count
 sized count = record { low = omega (arith, ints); high = omega (arith, ints) }
 
 -- what is worth nothing after a year that nobody survives is worth nothing, whatever came after
-nothing-carried : (r later survival : Ends) (start rest : ℕ) → later.lo ≤ℤ later.hi → ((n m : ℤ) (d e : ℕ) → Encloses later n d → Encloses survival m e → Encloses r (n *ℤ m) (d * e))
+nothing-carried : (r later survival : Ends) (start rest : ℕ) → later.lo ≤ℤ later.hi
+    → ((n m : ℤ) (d e : ℕ) → Encloses later n d → Encloses survival m e → Encloses r (n *ℤ m) (d * e))
     → Encloses survival (pos 0) start → Encloses r (pos 0) (start * rest)
 nothing-carried r later survival start rest order product none =
-    let whole : Encloses later later.lo fine = record { low = omega (arith, ints); high = mul_le_pos later.lo later.hi fine order } in
+    let whole : Encloses later later.lo fine =
+    record { low = omega (arith, ints); high = mul_le_pos later.lo later.hi fine order } in
     let zero_times : later.lo *ℤ pos 0 ≡ pos 0 = omega (arith, ints) in
     let e : Encloses r (pos 0) (fine * start) = rw zero_times at (product later.lo (pos 0) fine start whole none) in
-    let f : Encloses r (pos 0) start = encloses_reduced r (pos 0) start fine (omega arith) (rw (mul_comm start fine) e) in
+    let f : Encloses r (pos 0) start =
+    encloses_reduced r (pos 0) start fine (omega arith) (rw (mul_comm start fine) e) in
     encloses_at r (pos 0) (pos 0) start (start * rest) rest f (omega (arith, ints)) refl
 
 -- what comes later, if all survive the year
-pub carried : (r later survival : Ends) (alive start x rest : ℕ) → later.lo ≤ℤ later.hi → ((n m : ℤ) (d e : ℕ) → Encloses later n d → Encloses survival m e → Encloses r (n *ℤ m) (d * e))
-    → Encloses survival (pos alive) start → Encloses later (pos x) (alive * rest) → (alive ≡ 0 → x ≡ 0) → Encloses r (pos x) (start * rest)
-carried r later survival zero start x rest order product survive value none = rw (none refl) (nothing-carried r later survival start rest order product survive)
+pub carried : (r later survival : Ends) (alive start x rest : ℕ) → later.lo ≤ℤ later.hi
+    → ((n m : ℤ) (d e : ℕ) → Encloses later n d → Encloses survival m e → Encloses r (n *ℤ m) (d * e))
+    → Encloses survival (pos alive) start
+    → Encloses later (pos x) (alive * rest) → (alive ≡ 0 → x ≡ 0) → Encloses r (pos x) (start * rest)
+carried r later survival zero start x rest order product survive value none =
+    rw (none refl) (nothing-carried r later survival start rest order product survive)
 carried r later survival (suc alive) start x rest order product survive value none =
     let e : suc alive * rest * start ≡ start * rest * suc alive = omega arith in
-    encloses_reduced r (pos x) (start * rest) (suc alive) (omega arith) (rw e at (product (pos x) (pos (suc alive)) (suc alive * rest) start value survive))
+    encloses_reduced r (pos x) (start * rest)
+    (suc alive) (omega arith) (rw e at (product (pos x) (pos (suc alive)) (suc alive * rest) start value survive))
 
 -- a year back
-pub back : (due sum r discount carry : Ends) (left start x rest q i : ℕ) → ((n m : ℤ) (d : ℕ) → Encloses due n d → Encloses carry m d → Encloses sum (n +ℤ m) d)
+pub back : (due sum r discount carry : Ends) (left start x rest q i : ℕ)
+    → ((n m : ℤ) (d : ℕ) → Encloses due n d → Encloses carry m d → Encloses sum (n +ℤ m) d)
     → ((n m : ℤ) (d e : ℕ) → Encloses sum n d → Encloses discount m e → Encloses r (n *ℤ m) (d * e))
     → Encloses due (pos left) start → Encloses carry (pos x) (start * rest) → Encloses discount (pos q) i
     → Encloses r (pos (q * (left * rest + x))) (start * (i * rest))
 back due sum r discount carry left start x rest q i add mul d c v =
     let e : (left * rest + x) * q ≡ q * (left * rest + x) = mul_comm (left * rest + x) q in
     let f : start * rest * i ≡ start * (i * rest) = omega arith in
-    rw (e, f) at (mul (pos (left * rest + x)) (pos q) (start * rest) i (add (pos (left * rest)) (pos x) (start * rest) (encloses_at due (pos left) (pos (left * rest)) start (start * rest) rest d refl refl) c) v)
+    rw (e, f) at (mul (pos (left * rest + x)) (pos q) (start * rest) i (add (pos (left * rest)) (pos x)
+    (start * rest) (encloses_at due (pos left) (pos (left * rest)) start (start * rest) rest d refl refl) c) v)
 
 -- the widths of a year back: of what is due, of what is carried, and of the discount
-pub back-narrow : (due b w d : ℕ) → 1 ≤ due + b → (due * d + (w * 1 + d * b + 1)) * 1 + 1 * (due + b) + 1 ≤ w + (d + 3) * (due + b)
+pub back-narrow : (due b w d : ℕ)
+    → 1 ≤ due + b → (due * d + (w * 1 + d * b + 1)) * 1 + 1 * (due + b) + 1 ≤ w + (d + 3) * (due + b)
 back-narrow due b w d some = omega (arith, some)
 
 -- nothing due and nothing carried is exactly nothing
@@ -64,7 +75,8 @@ nothing-narrow r w from bound = record { near = omega (arith, ints, from, bound)
 wider : (r : Ends) (v w : ℕ) → v ≤ w → HasWidth r v → HasWidth r w
 wider r v w h p = record { near = let k = p.near in omega (arith, ints) }
 
-pub year-narrow : (r : Ends) (due b w d : ℕ) → pos 0 ≤ℤ r.lo → r.hi ≤ℤ pos ((due + b) * fine) → HasWidth r ((due * d + (w * 1 + d * b + 1)) * 1 + 1 * (due + b) + 1) → HasWidth r (w + (d + 3) * (due + b))
+pub year-narrow : (r : Ends) (due b w d : ℕ) → pos 0 ≤ℤ r.lo → r.hi ≤ℤ pos ((due + b) * fine)
+    → HasWidth r ((due * d + (w * 1 + d * b + 1)) * 1 + 1 * (due + b) + 1) → HasWidth r (w + (d + 3) * (due + b))
 year-narrow r due b w d from bound h = ⊎_elim
     (λ none. let e : due + b ≡ 0 = omega arith in nothing-narrow r _ from (rw e at bound))
     (λ some. wider r _ _ (back-narrow due b w d some) h)

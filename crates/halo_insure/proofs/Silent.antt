@@ -20,13 +20,17 @@ difference-none : (y z : ℤ) → y ≡ z → y -ℤ z ≡ pos 0
 difference-none y z e = rw e (omega (arith, ints))
 
 -- a function that does not depend on a number has the coefficient 0 for each set with it
-silent-coefficient : (f : List Bool → ℤ) (a : ℕ) (s : List Bool) → in_set s a ≡ true → ((u : List Bool) → f (set u a true) ≡ f (set u a false)) → coefficient f s ≡ pos 0
+silent-coefficient : (f : List Bool → ℤ) (a : ℕ) (s : List Bool)
+    → in_set s a ≡ true → ((u : List Bool) → f (set u a true) ≡ f (set u a false)) → coefficient f s ≡ pos 0
 silent-coefficient f a [] e h = absurd (cc)
 silent-coefficient f zero (false ∷ s) e h = absurd (cc)
-silent-coefficient f zero (true ∷ s) e h = coefficient-with f s ∙ difference-none _ _ (ap (λ (g : List Bool → ℤ). coefficient g s) (fun_ext (λ u. h (true ∷ u))))
+silent-coefficient f zero (true ∷ s) e h = coefficient-with f s
+    ∙ difference-none _ _ (ap (λ (g : List Bool → ℤ). coefficient g s) (fun_ext (λ u. h (true ∷ u))))
 silent-coefficient f (suc a) (true ∷ s) e h = coefficient-with f s
-    ∙ difference-none _ _ (silent-coefficient (λ u. f (true ∷ u)) a s e (λ u. h (true ∷ u)) ∙ sym (silent-coefficient (λ u. f (false ∷ u)) a s e (λ u. h (false ∷ u))))
-silent-coefficient f (suc a) (false ∷ s) e h = coefficient-without f s ∙ silent-coefficient (λ u. f (false ∷ u)) a s e (λ u. h (false ∷ u))
+    ∙ difference-none _ _ (silent-coefficient (λ u. f (true ∷ u)) a s e (λ u. h (true ∷ u))
+    ∙ sym (silent-coefficient (λ u. f (false ∷ u)) a s e (λ u. h (false ∷ u))))
+silent-coefficient f (suc a) (false ∷ s) e h = coefficient-without f s
+    ∙ silent-coefficient (λ u. f (false ∷ u)) a s e (λ u. h (false ∷ u))
 
 members-unnamed : (body : Tree) (i : ℕ) → names_life i body ≡ false → any_names_life i (members_of body) ≡ false
 members-unnamed (joint ms) i e = e
@@ -38,19 +42,26 @@ members-unnamed (exactly r ms) i e = refl
 members-unnamed (after s t) i e = refl
 
 module _ (body : Tree) (a : ℕ) (silent : names_life a body ≡ false) (on : ℕ → Bool) (u : List Bool) where
-  other : (i : ℕ) (name : ℕ → Bool) → name a ≡ false → name i ≡ true → in_set (set u a true) i ≡ in_set (set u a false) i
+  other : (i : ℕ) (name : ℕ → Bool)
+      → name a ≡ false → name i ≡ true → in_set (set u a true) i ≡ in_set (set u a false) i
   other i name unnamed named =
       let apart : i ≡ a → ⊥ = λ same. let e : name i ≡ false = rw same unnamed in cc in
       get_or-set_other u a i true false apart ∙ sym (get_or-set_other u a i false false apart)
 
   -- a body exists with a life that it does not name as without it, and so do its members
-  exists-silent : (mark : Option Mark) → exists_by_mark mark body (in_set (set u a true)) on ≡ exists_by_mark mark body (in_set (set u a false)) on
-  exists-silent None = agree (in_set (set u a true)) (in_set (set u a false)) on on body (λ i e. other i (λ j. names_life j body) silent e) (λ n e. refl)
-  exists-silent (Some mark) = ap (waits_at_rank mark) (each-agree (in_set (set u a true)) (in_set (set u a false)) on on (members_of body) (λ i e. other i (λ j. any_names_life j (members_of body)) (members-unnamed body a silent) e) (λ n e. refl))
+  exists-silent : (mark : Option Mark)
+      → exists_by_mark mark body (in_set (set u a true)) on ≡ exists_by_mark mark body (in_set (set u a false)) on
+  exists-silent None = agree (in_set (set u a true))
+      (in_set (set u a false)) on on body (λ i e. other i (λ j. names_life j body) silent e) (λ n e. refl)
+  exists-silent (Some mark) =
+      ap (waits_at_rank mark) (each-agree (in_set (set u a true)) (in_set (set u a false)) on on (members_of body)
+      (λ i e. other i (λ j. any_names_life j (members_of body)) (members-unnamed body a silent) e) (λ n e. refl))
 
-pub silent-form : (pay : PlainPay) (t a : ℕ) (s : List Bool) → in_set s a ≡ true → names_life a pay.body ≡ false → form pay t s ≡ pos 0
+pub silent-form : (pay : PlainPay) (t a : ℕ) (s : List Bool)
+    → in_set s a ≡ true → names_life a pay.body ≡ false → form pay t s ≡ pos 0
 unfolding form
-silent-form pay t a s e silent = silent-coefficient (existence pay t) a s e (λ u. ap indicator (exists-silent pay.body a silent _ u pay.mark))
+silent-form pay t a s e silent =
+    silent-coefficient (existence pay t) a s e (λ u. ap indicator (exists-silent pay.body a silent _ u pay.mark))
 
 abbrev one_if : Bool → ℕ
 one_if b = cond b 1 0
@@ -59,11 +70,13 @@ one_if b = cond b 1 0
 abbrev count_named : (ℕ → Bool) → ℕ → ℕ
 count_named name n = sum_over (numbers_from 0 n) (λ i. cond (name i) 1 0)
 
-count-next : (name : ℕ → Bool) (n : ℕ) → count_named name (suc n) ≡ cond (name 0) 1 0 + count_named (λ i. name (suc i)) n
+count-next : (name : ℕ → Bool) (n : ℕ)
+    → count_named name (suc n) ≡ cond (name 0) 1 0 + count_named (λ i. name (suc i)) n
 count-next name n = ap (λ m. cond (name 0) 1 0 + m) (sum_over-numbers_next n 0 (λ i. cond (name i) 1 0))
 
 -- a set has at most as many lives as are named, or it has one that is not
-named-or-not : (name : ℕ → Bool) (s : List Bool) → (size_of s ≤ count_named name (length s)) ⊎ ((a : ℕ) × (in_set s a ≡ true) × (name a ≡ false))
+named-or-not : (name : ℕ → Bool) (s : List Bool)
+    → (size_of s ≤ count_named name (length s)) ⊎ ((a : ℕ) × (in_set s a ≡ true) × (name a ≡ false))
 named-or-not name [] = inl (omega arith)
 named-or-not name (false ∷ s) = ⊎_elim
     (λ few. inl (omega (arith, few, count-next name (length s))))
@@ -71,8 +84,10 @@ named-or-not name (false ∷ s) = ⊎_elim
     (named-or-not (λ i. name (suc i)) s)
 named-or-not name (true ∷ s) = first (name 0) refl (named-or-not (λ i. name (suc i)) s)
   where
-    first : (here : Bool) → name 0 ≡ here → (size_of s ≤ count_named (λ i. name (suc i)) (length s)) ⊎ ((a : ℕ) × (in_set s a ≡ true) × (name (suc a) ≡ false))
-        → (size_of (true ∷ s) ≤ count_named name (length (true ∷ s))) ⊎ ((a : ℕ) × (in_set (true ∷ s) a ≡ true) × (name a ≡ false))
+    first : (here : Bool) → name 0 ≡ here → (size_of s ≤ count_named (λ i. name (suc i)) (length s))
+        ⊎ ((a : ℕ) × (in_set s a ≡ true) × (name (suc a) ≡ false))
+        → (size_of (true ∷ s) ≤ count_named name (length (true ∷ s)))
+        ⊎ ((a : ℕ) × (in_set (true ∷ s) a ≡ true) × (name a ≡ false))
     first false e rest = inr (0, refl, e)
     first true e rest = ⊎_elim
         (λ few. inl (omega (arith, few, count-next name (length s), ap one_if e)))
@@ -80,7 +95,8 @@ named-or-not name (true ∷ s) = first (name 0) refl (named-or-not (λ i. name (
         rest
 
 -- a coefficient that is not 0 is of a set of named lives alone
-pub few-or-none : (pay : PlainPay) (t n : ℕ) (s : List Bool) → length s ≡ n → (size_of s ≤ lives_named n pay.body) ⊎ (form pay t s ≡ pos 0)
+pub few-or-none : (pay : PlainPay) (t n : ℕ) (s : List Bool)
+    → length s ≡ n → (size_of s ≤ lives_named n pay.body) ⊎ (form pay t s ≡ pos 0)
 few-or-none pay t n s len = ⊎_elim
     (λ few. inl (rw len at few))
     (λ found. inr (silent-form pay t found.0 s found.1 found.2))

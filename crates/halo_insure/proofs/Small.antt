@@ -35,7 +35,8 @@ size-within (false ∷ s) = omega (arith, size-within s)
 pub coefficient-sized : (pay : PlainPay) (t : ℕ) (s : List Bool) → length s ≤ 12 → IsSized (form pay t s) (2 ^ 11)
 unfolding form
 coefficient-sized pay t s few =
-    let bound = coefficients-bounded (λ u. exists_by_mark pay.mark pay.body (in_set u) (is_on (view_of pay.kind) t)) s in
+    let bound =
+    coefficients-bounded (λ u. exists_by_mark pay.mark pay.body (in_set u) (is_on (view_of pay.kind) t)) s in
     let less : size_of s - 1 ≤ 11 = omega (arith, few, size-within s) in
     let power : 2 ^ (size_of s - 1) ≤ 2 ^ 11 = pow-le-pow_right (omega arith) less in
     record { low = omega (arith, ints, bound.0, power); high = omega (arith, ints, bound.1, power) }
@@ -58,7 +59,8 @@ cond-most true n c h = h
 cond-most false n c h = omega arith
 
 -- no more is due for a set in a year than 201 times its coefficient and what that can lose
-module _ (part : ℤ → ℕ) (sized : (z : ℤ) (n : ℕ) → IsSized z n → part z ≤ n) (pay : PlainPay) (one : pay.amount ≡ 1) (varies : HasValidVary pay.vary) (events : SomeEvents) (years : ℕ) (s : List Bool) (few : length s ≤ 12) where
+module _ (part : ℤ → ℕ) (sized : (z : ℤ) (n : ℕ) → IsSized z n → part z ≤ n) (pay : PlainPay) (one : pay.amount ≡ 1)
+    (varies : HasValidVary pay.vary) (events : SomeEvents) (years : ℕ) (s : List Bool) (few : length s ≤ 12) where
   before-sized : (t : ℕ) → IsSized (coefficient_before pay years t s) (2 ^ 11)
   before-sized t = each (nat_lt t years) (coefficient-sized pay t s few)
     where
@@ -75,27 +77,36 @@ module _ (part : ℤ → ℕ) (sized : (z : ℤ) (n : ℕ) → IsSized z n → p
   paid-small : (k : ℕ) → k ≤ 200 → payment pay (k - pay.defer) ≤ 201
   paid-small k h = rw one (omega (arith, factor-small pay.vary (k - pay.defer) varies (omega (arith, h))))
 
-  year-small : (k : ℕ) → k ≤ 200 → (due_of part pay events years s k).on_leaving + (due_of part pay events years s k).at_end ≤ 201 * 2 ^ 11 + 201 * 2 ^ 12
+  year-small : (k : ℕ) → k ≤ 200 → (due_of part pay events years s k).on_leaving
+      + (due_of part pay events years s k).at_end ≤ 201 * 2 ^ 11 + 201 * 2 ^ 12
   year-small k h =
-      let now = mul-le (payment pay (k - pay.defer)) (part (form pay k s)) 201 (2 ^ 11) (paid-small k h) (sized (form pay k s) (2 ^ 11) (coefficient-sized pay k s few)) in
-      let end = mul-le (payment pay (k - pay.defer)) (part (form pay k s -ℤ coefficient_before pay years (suc k) s)) 201 (2 ^ 12) (paid-small k h) (sized _ (2 ^ 12) (lost-sized k)) in
+      let now = mul-le (payment pay (k - pay.defer)) (part (form pay k s)) 201
+      (2 ^ 11) (paid-small k h) (sized (form pay k s) (2 ^ 11) (coefficient-sized pay k s few)) in
+      let end = mul-le (payment pay (k - pay.defer)) (part (form pay k s -ℤ coefficient_before pay years (suc k) s)) 201
+      (2 ^ 12) (paid-small k h) (sized _ (2 ^ 12) (lost-sized k)) in
       omega (
         arith,
         cond-most (nat_le pay.defer k) (payment pay (k - pay.defer) * part (form pay k s)) (201 * 2 ^ 11) now,
-        cond-most (nat_le pay.defer k && ends_count pay events (suc k)) (payment pay (k - pay.defer) * part (form pay k s -ℤ coefficient_before pay years (suc k) s)) (201 * 2 ^ 12) end,
+        cond-most (nat_le pay.defer k && ends_count pay events (suc k))
+            (payment pay (k - pay.defer) * part (form pay k s -ℤ coefficient_before pay years (suc k) s))
+            (201 * 2 ^ 12) end,
       )
 
-  pub most-small : (more k : ℕ) → k + more ≤ 201 → most_due (due_of part pay events years s) k more ≤ more * (201 * 2 ^ 11 + 201 * 2 ^ 12)
+  pub most-small : (more k : ℕ)
+      → k + more ≤ 201 → most_due (due_of part pay events years s) k more ≤ more * (201 * 2 ^ 11 + 201 * 2 ^ 12)
   most-small zero k h = omega arith
   most-small (suc more) k h = omega (arith, year-small k (omega (arith, h)), most-small more (suc k) (omega (arith, h)))
 
-small-within : (i : Ends) (most years : ℕ) → years ≤ 201 → most ≤ years * (201 * 2 ^ 11 + 201 * 2 ^ 12) → pos 0 ≤ℤ i.lo → i.hi ≤ℤ pos (most * fine) → IsWithin i (pos 0) (pos (10 ^ 32))
+small-within : (i : Ends) (most years : ℕ) → years ≤ 201 → most ≤ years * (201 * 2 ^ 11 + 201 * 2 ^ 12)
+    → pos 0 ≤ℤ i.lo → i.hi ≤ℤ pos (most * fine) → IsWithin i (pos 0) (pos (10 ^ 32))
 small-within i most years few h from bound =
     let m : most ≤ 10 ^ 14 = omega (arith, few, h) in
     let n : most * fine ≤ 10 ^ 14 * fine = mul-le-mul_right fine m in
     record { low = from; high = omega (arith, ints, bound, n) }
 
-pub dues-modest : (b : Basis) (pay : PlainPay) → pay.amount ≡ 1 → HasValidVary pay.vary → horizon b.lives pay.body ≤ 200 → (events : SomeEvents) (n : ℕ) → n ≤ 12 → (t : ℕ) (lists : Lists) → HoldDues b pay events n t lists → AreModest (2 ^ n) lists
+pub dues-modest : (b : Basis) (pay : PlainPay)
+    → pay.amount ≡ 1 → HasValidVary pay.vary → horizon b.lives pay.body ≤ 200 → (events : SomeEvents) (n : ℕ)
+    → n ≤ 12 → (t : ℕ) (lists : Lists) → HoldDues b pay events n t lists → AreModest (2 ^ n) lists
 dues-modest b pay one varies in_time events n few t lists held mask below =
     let H : ℕ = horizon b.lives pay.body in
     let s : List Bool = bits n mask in
@@ -106,10 +117,13 @@ dues-modest b pay one varies in_time events n few t lists held mask below =
     )
   where
     small : (part : ℤ → ℕ) → ((z : ℤ) (n : ℕ) → IsSized z n → part z ≤ n) → (s : List Bool) → length s ≤ 12
-        → most_due (due_of part pay events (horizon b.lives pay.body) s) t (horizon b.lives pay.body - t) ≤ (horizon b.lives pay.body - t) * (201 * 2 ^ 11 + 201 * 2 ^ 12)
+        → most_due (due_of part pay events (horizon b.lives pay.body) s) t (horizon b.lives pay.body - t)
+        ≤ (horizon b.lives pay.body - t) * (201 * 2 ^ 11 + 201 * 2 ^ 12)
     small part sized s short = ⊎_elim
-        (λ (past : horizon b.lives pay.body < t). let none : horizon b.lives pay.body - t ≡ 0 = omega arith in rw none (omega arith))
-        (λ (before : t ≤ horizon b.lives pay.body). most-small part sized pay one varies events (horizon b.lives pay.body) s short (horizon b.lives pay.body - t) t (omega (arith, before, in_time)))
+        (λ (past : horizon b.lives pay.body < t). let none : horizon b.lives pay.body - t ≡ 0 = omega arith in
+        rw none (omega arith))
+        (λ (before : t ≤ horizon b.lives pay.body). most-small part sized pay one varies events
+        (horizon b.lives pay.body) s short (horizon b.lives pay.body - t) t (omega (arith, before, in_time)))
         (cases_lt (horizon b.lives pay.body) t)
 
 -- a coefficient of a set of a group, with room

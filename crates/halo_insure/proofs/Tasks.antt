@@ -46,10 +46,12 @@ module _ {n m : ℕ} (task : Task n m) (group : IsGroup n task.group.now) where
 
   pub are-lives : AreLives (insured_basis task).lives
   are-lives = lives_of-AreLives task.group.now.file group.sound task.group.now.lives
-      (All-from_get_or (λ life. HasRow task.group.now.file life.table life.age) task.group.now.lives (record { table = 0; age = 0 }) (λ i h. group.rows i (omega (arith, h, group.count))))
+      (All-from_get_or (λ life. HasRow task.group.now.file life.table life.age) task.group.now.lives
+      (record { table = 0; age = 0 }) (λ i h. group.rows i (omega (arith, h, group.count))))
 
 -- with amount 1 it is a valid insurance as well
-pub unit-valid : {n m : ℕ} (task : Task n m) → IsTask task → task.pay.now.kind ≡ Insurance → IsValidInsurance (unit_pay task)
+pub unit-valid : {n m : ℕ} (task : Task n m)
+    → IsTask task → task.pay.now.kind ≡ Insurance → IsValidInsurance (unit_pay task)
 unit-valid task is kind =
     let v = is.valid in
     record {
@@ -75,12 +77,16 @@ unfolding form
 form-of-one pay t s = refl
 
 -- the coefficients of the polynomial of a time, for amount 1
-pub unit-coefficients : {n m : ℕ} (task : Task n m) (t : ℕ) (p : List ℤ) → IsPolyOf (pay_of task.pay.now) n t p → (mask : ℕ) → mask < 2 ^ n → coefficient_at p mask ≡ form (unit_pay task) t (bits n mask)
-unit-coefficients {n} {m} task t p is mask below = coefficients-by-mask (pay_of task.pay.now) n t p is mask below ∙ form-of-one (pay_of task.pay.now) t (bits n mask)
+pub unit-coefficients : {n m : ℕ} (task : Task n m) (t : ℕ) (p : List ℤ) → IsPolyOf (pay_of task.pay.now) n t p
+    → (mask : ℕ) → mask < 2 ^ n → coefficient_at p mask ≡ form (unit_pay task) t (bits n mask)
+unit-coefficients {n} {m} task t p is mask below = coefficients-by-mask (pay_of task.pay.now) n t p is mask below
+    ∙ form-of-one (pay_of task.pay.now) t (bits n mask)
 
 -- an insurance has a form at each time before its horizon
-pub has-form : {n m : ℕ} (task : Task n m) → IsTask task → task.pay.now.kind ≡ Insurance → (t : ℕ) → t < task.horizon → (place : ℕ) × HasTime task.form.now t place
-has-form {n} {m} task is kind t before = time-has-segment (pay_of task.pay.now) n task.horizon t task.form.now is.form (rw kind (omega arith)) (rw kind (omega (arith, before)))
+pub has-form : {n m : ℕ} (task : Task n m) → IsTask task
+    → task.pay.now.kind ≡ Insurance → (t : ℕ) → t < task.horizon → (place : ℕ) × HasTime task.form.now t place
+has-form {n} {m} task is kind t before = time-has-segment (pay_of task.pay.now) n task.horizon t task.form.now is.form
+    (rw kind (omega arith)) (rw kind (omega (arith, before)))
 
 -- fewer lives make fewer products
 size-within : (s : List Bool) → size_of s ≤ length s
@@ -101,7 +107,8 @@ no-table [] i h = refl
 no-table (t ∷ tables) zero h = absurd (omega arith)
 no-table (t ∷ tables) (suc i) h = no-table tables i (omega arith)
 
-ages-end : (causes : ℕ) (tables : List DecrementTable) → All (IsSoundTable causes) tables → (i : ℕ) → (get_or tables i empty_table).first_age + length (get_or tables i empty_table).rows ≤ 151
+ages-end : (causes : ℕ) (tables : List DecrementTable) → All (IsSoundTable causes) tables
+    → (i : ℕ) → (get_or tables i empty_table).first_age + length (get_or tables i empty_table).rows ≤ 151
 ages-end causes tables sound i = ⊎_elim
     (λ (there : i < length tables). (All-get_or (IsSoundTable causes) tables i empty_table there sound).ages)
     (λ (past : length tables ≤ i). rw (no-table tables i past) (omega arith))
@@ -119,21 +126,30 @@ pub end-by : {n m : ℕ} (task : Task n m) → IsGroup n task.group.now → EndB
 end-by task group = lives-end task.group.now.file group.sound task.group.now.lives
 
 -- an interval with the same ends encloses the same
-pub same-insurance : (b : Basis) (pay : PlainPay) (T alive : ℕ) (i j : Ends) → i.lo ≡ j.lo → i.hi ≡ j.hi → EnclosesInsurance b pay T alive j → EnclosesInsurance b pay T alive i
+pub same-insurance : (b : Basis) (pay : PlainPay) (T alive : ℕ) (i j : Ends)
+    → i.lo ≡ j.lo → i.hi ≡ j.hi → EnclosesInsurance b pay T alive j → EnclosesInsurance b pay T alive i
 same-insurance b pay T alive i j lo hi e = record {
   encloses = record { low = rw lo e.encloses.low; high = rw hi e.encloses.high };
   narrow = record { near = omega (arith, ints, lo, hi, e.narrow.near) };
 }
 
 -- the products of the chances of the named lives
-pub products-together : (n m named : ℕ) (ties : Ties) → m ≡ 2 ^ n → (2 ^ size_of (bits n named) ≤ m) × (products_of_leavings ties (size_of (bits n named)) ≤ products_of_leavings ties n)
-products-together n m named ties sets = (rw sets (pow-le-pow_right (omega arith) (named-few n named)), products-most ties (size_of (bits n named)) n (named-few n named))
+pub products-together : (n m named : ℕ) (ties : Ties) → m ≡ 2 ^ n → (2 ^ size_of (bits n named) ≤ m)
+    × (products_of_leavings ties (size_of (bits n named)) ≤ products_of_leavings ties n)
+products-together n m named ties sets = (
+  rw sets (pow-le-pow_right (omega arith) (named-few n named)),
+  products-most ties (size_of (bits n named)) n (named-few n named),
+)
 
 -- the coefficients of the next time, and none where the form does not go on
-pub next-of-form : {n m : ℕ} (task : Task n m) (k time : ℕ) (goes : Bool) (p : List ℤ) → IsPolyOf (pay_of task.pay.now) n time p → goes ≡ nat_lt (suc k) task.horizon → (suc k < task.horizon → time ≡ suc k)
-    → (mask : ℕ) → mask < 2 ^ n → cond goes (coefficient_at p mask) (pos 0) ≡ coefficient_before (unit_pay task) task.horizon (suc k) (bits n mask)
+pub next-of-form : {n m : ℕ} (task : Task n m) (k time : ℕ) (goes : Bool) (p : List ℤ) → IsPolyOf
+    (pay_of task.pay.now) n time p → goes ≡ nat_lt (suc k) task.horizon → (suc k < task.horizon → time ≡ suc k)
+    → (mask : ℕ) → mask < 2 ^ n → cond goes (coefficient_at p mask) (pos 0)
+    ≡ coefficient_before (unit_pay task) task.horizon (suc k) (bits n mask)
 next-of-form {n} {m} task k time goes p is going next mask below = rw going (each (nat_lt (suc k) task.horizon) refl)
   where
-    each : (b : Bool) → nat_lt (suc k) task.horizon ≡ b → cond b (coefficient_at p mask) (pos 0) ≡ cond b (form (unit_pay task) (suc k) (bits n mask)) (pos 0)
-    each true e = let t : time ≡ suc k = next (grind (arith, nat_tests, e)) in unit-coefficients task time p is mask below ∙ ap (λ (u : ℕ). form (unit_pay task) u (bits n mask)) t
+    each : (b : Bool) → nat_lt (suc k) task.horizon ≡ b
+        → cond b (coefficient_at p mask) (pos 0) ≡ cond b (form (unit_pay task) (suc k) (bits n mask)) (pos 0)
+    each true e = let t : time ≡ suc k = next (grind (arith, nat_tests, e)) in
+        unit-coefficients task time p is mask below ∙ ap (λ (u : ℕ). form (unit_pay task) u (bits n mask)) t
     each false e = refl

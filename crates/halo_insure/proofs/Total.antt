@@ -34,38 +34,51 @@ use Rattle.halo_insure.proofs.Counted.{sets-within-count}
 use Rattle.halo_insure.proofs.Signs.{set-value-is-worth}
 
 -- only the lives that there are count
-joint-agree : (T : ℕ) (lives : List PlainLife) (S U : ℕ → Bool) → ((i : ℕ) → i < length lives → S i ≡ U i) → joint_survivors T S lives ≡ joint_survivors T U lives
+joint-agree : (T : ℕ) (lives : List PlainLife) (S U : ℕ → Bool)
+    → ((i : ℕ) → i < length lives → S i ≡ U i) → joint_survivors T S lives ≡ joint_survivors T U lives
 joint-agree T [] S U h = refl
-joint-agree T (x ∷ lives) S U h = rw (h 0 (omega arith), joint-agree T lives (after_first S) (after_first U) (λ i below. h (suc i) (omega arith))) refl
+joint-agree T (x ∷ lives) S U h = rw (
+  h 0 (omega arith),
+  joint-agree T lives (after_first S) (after_first U) (λ i below. h (suc i) (omega arith)),
+) refl
 
-outcomes-agree : (T : ℕ) (lives : List PlainLife) (S U : ℕ → Bool) → ((i : ℕ) → i < length lives → S i ≡ U i) → outcomes T S lives ≡ outcomes T U lives
+outcomes-agree : (T : ℕ) (lives : List PlainLife) (S U : ℕ → Bool)
+    → ((i : ℕ) → i < length lives → S i ≡ U i) → outcomes T S lives ≡ outcomes T U lives
 outcomes-agree T [] S U h = refl
 outcomes-agree T (x ∷ lives) S U h =
-    ap (λ (rest : List Outcome). flat_map (λ way. map (λ o. way ∷ o) rest) (ways T (S 0) x)) (outcomes-agree T lives (after_first S) (after_first U) (λ i below. h (suc i) (omega arith)))
-    ∙ ap (λ (there : Bool). flat_map (λ way. map (λ o. way ∷ o) (outcomes T (after_first U) lives)) (ways T there x)) (h 0 (omega arith))
+    ap (λ (rest : List Outcome). flat_map (λ way. map (λ o. way ∷ o) rest) (ways T (S 0) x))
+    (outcomes-agree T lives (after_first S) (after_first U) (λ i below. h (suc i) (omega arith)))
+    ∙ ap (λ (there : Bool). flat_map (λ way. map (λ o. way ∷ o) (outcomes T (after_first U) lives)) (ways T there x))
+    (h 0 (omega arith))
 
 lies-agree : (s : List Bool) (S U : ℕ → Bool) → ((i : ℕ) → i < length s → S i ≡ U i) → lies_in s S ≡ lies_in s U
 lies-agree [] S U h = refl
 lies-agree (false ∷ s) S U h = lies-agree s (after_first S) (after_first U) (λ i below. h (suc i) (omega arith))
-lies-agree (true ∷ s) S U h = rw (h 0 (omega arith), lies-agree s (after_first S) (after_first U) (λ i below. h (suc i) (omega arith))) refl
+lies-agree (true ∷ s) S U h =
+    rw (h 0 (omega arith), lies-agree s (after_first S) (after_first U) (λ i below. h (suc i) (omega arith))) refl
 
-numerator-agree : (b : Basis) (pay : PlainPay) (T : ℕ) (S U : ℕ → Bool) → ((i : ℕ) → i < length b.lives → S i ≡ U i) → numerator b pay T S ≡ numerator b pay T U
+numerator-agree : (b : Basis) (pay : PlainPay) (T : ℕ) (S U : ℕ → Bool)
+    → ((i : ℕ) → i < length b.lives → S i ≡ U i) → numerator b pay T S ≡ numerator b pay T U
 unfolding numerator
 numerator-agree b pay T S U h = rw (outcomes-agree T b.lives S U h) refl
 
-denominator-agree : (b : Basis) (T : ℕ) (S U : ℕ → Bool) → ((i : ℕ) → i < length b.lives → S i ≡ U i) → denominator b T S ≡ denominator b T U
+denominator-agree : (b : Basis) (T : ℕ) (S U : ℕ → Bool)
+    → ((i : ℕ) → i < length b.lives → S i ≡ U i) → denominator b T S ≡ denominator b T U
 unfolding denominator
 denominator-agree b T S U h = ap (λ (j : ℕ). length (taken b) * (j * accumulated b T)) (joint-agree T b.lives S U h)
 
 -- a sum over the subsets of a set is one over all sets of which those that lie in it count
-subsets-as-sets : (u : List Bool) (f : List Bool → ℤ) → int_sum_over (sets (length u)) (λ s. cond (lies_in s (in_set u)) (f s) (pos 0)) ≡ int_sum_over (subsets u) f
+subsets-as-sets : (u : List Bool) (f : List Bool → ℤ)
+    → int_sum_over (sets (length u)) (λ s. cond (lies_in s (in_set u)) (f s) (pos 0)) ≡ int_sum_over (subsets u) f
 subsets-as-sets [] f = refl
 subsets-as-sets (true ∷ u) f = int_sum_over-sets (length u) (λ s. cond (lies_in s (in_set (true ∷ u))) (f s) (pos 0))
-    ∙ ap (λ z. z +ℤ int_sum_over (sets (length u)) (λ s. cond (lies_in s (in_set u)) (f (true ∷ s)) (pos 0))) (subsets-as-sets u (λ s. f (false ∷ s)))
+    ∙ ap (λ z. z +ℤ int_sum_over (sets (length u)) (λ s. cond (lies_in s (in_set u)) (f (true ∷ s)) (pos 0)))
+    (subsets-as-sets u (λ s. f (false ∷ s)))
     ∙ ap (λ z. int_sum_over (subsets u) (λ s. f (false ∷ s)) +ℤ z) (subsets-as-sets u (λ s. f (true ∷ s)))
     ∙ sym (int_sum_over-subsets_with u f)
 subsets-as-sets (false ∷ u) f = int_sum_over-sets (length u) (λ s. cond (lies_in s (in_set (false ∷ u))) (f s) (pos 0))
-    ∙ ap (λ z. int_sum_over (sets (length u)) (λ s. cond (lies_in s (in_set u)) (f (false ∷ s)) (pos 0)) +ℤ z) (int_sum_over-none (sets (length u)))
+    ∙ ap (λ z. int_sum_over (sets (length u)) (λ s. cond (lies_in s (in_set u)) (f (false ∷ s)) (pos 0)) +ℤ z)
+    (int_sum_over-none (sets (length u)))
     ∙ alone _
     ∙ subsets-as-sets u (λ s. f (false ∷ s))
     ∙ sym (int_sum_over-subsets_without u f)
@@ -80,14 +93,17 @@ sum_of shares first count = record {
   hi = int_sum_over (numbers_from first count) (λ mask. (shares mask).hi);
 }
 
-sum-encloses : (shares : ℕ → Ends) (parts : ℕ → ℤ) (d count first : ℕ) → ((mask : ℕ) → mask < first + count → Encloses (shares mask) (parts mask) d)
+sum-encloses : (shares : ℕ → Ends) (parts : ℕ → ℤ) (d count first : ℕ)
+    → ((mask : ℕ) → mask < first + count → Encloses (shares mask) (parts mask) d)
     → Encloses (sum_of shares first count) (int_sum_over (numbers_from first count) parts) d
 sum-encloses shares parts d zero first each = record { low = omega (arith, ints); high = omega (arith, ints) }
 sum-encloses shares parts d (suc count) first each =
-    encloses_add (shares first) (sum_of shares (suc first) count) (sum_of shares first (suc count)) (parts first) (int_sum_over (numbers_from (suc first) count) parts) d refl refl
+    encloses_add (shares first) (sum_of shares (suc first) count) (sum_of shares first (suc count))
+    (parts first) (int_sum_over (numbers_from (suc first) count) parts) d refl refl
     (each first (omega arith)) (sum-encloses shares parts d count (suc first) (λ mask below. each mask (omega arith)))
 
-sum-narrow : (shares : ℕ → Ends) (widths : ℕ → ℕ) (count first : ℕ) → ((mask : ℕ) → mask < first + count → HasWidth (shares mask) (widths mask))
+sum-narrow : (shares : ℕ → Ends) (widths : ℕ → ℕ) (count first : ℕ)
+    → ((mask : ℕ) → mask < first + count → HasWidth (shares mask) (widths mask))
     → HasWidth (sum_of shares first count) (sum_over (numbers_from first count) widths)
 sum-narrow shares widths zero first each = record { near = omega (arith, ints) }
 sum-narrow shares widths (suc count) first each =
@@ -95,8 +111,10 @@ sum-narrow shares widths (suc count) first each =
     let rest = sum-narrow shares widths count (suc first) (λ mask below. each mask (omega arith)) in
     record { near = omega (arith, ints, here.near, rest.near) }
 
-module _ (b : Basis) (rule : AreLives b.lives) (pay : PlainPay) (is : IsValidInsurance pay) (in_time : horizon b.lives pay.body ≤ b.last_time)
-    (events : SomeEvents) (T : ℕ) (lists : Lists) (held : HoldDues b pay events (length b.lives) T lists) (alive : ℕ) where
+module _ (b : Basis) (rule : AreLives b.lives)
+    (pay : PlainPay) (is : IsValidInsurance pay) (in_time : horizon b.lives pay.body ≤ b.last_time)
+    (events : SomeEvents)
+    (T : ℕ) (lists : Lists) (held : HoldDues b pay events (length b.lives) T lists) (alive : ℕ) where
   abbrev N : ℕ
   N = length b.lives
 
@@ -108,22 +126,30 @@ module _ (b : Basis) (rule : AreLives b.lives) (pay : PlainPay) (is : IsValidIns
 
   -- what a set adds, over the survivors of all lives alive
   abbrev part : List Bool → ℤ
-  part s = int_sum_over (taken b) (λ order. set_value b pay events (rank_in order) T s) *ℤ pos (joint_survivors T (outside (in_set all) s) b.lives)
+  part s = int_sum_over (taken b) (λ order. set_value b pay events (rank_in order) T s)
+      *ℤ pos (joint_survivors T (outside (in_set all) s) b.lives)
 
   abbrev whole : ℕ
   whole = length (taken b) * (joint_survivors T (in_set all) b.lives * accumulated b T)
 
   within : (mask : ℕ) → mask < 2 ^ N → is_within mask alive ≡ lies_in (bits N mask) (in_set all)
-  within mask below = within-is N mask alive below ∙ lies-agree (bits N mask) (has_bit alive) (in_set all) (λ i inside. has_bit-bits N alive i (omega (arith, inside, length-bits N mask)))
+  within mask below = within-is N mask alive below ∙ lies-agree (bits N mask)
+      (has_bit alive) (in_set all) (λ i inside. has_bit-bits N alive i (omega (arith, inside, length-bits N mask)))
 
   abbrev both : ℕ → Ends
-  both mask = record { lo = (entry lists.plus mask).lo -ℤ (entry lists.minus mask).hi; hi = (entry lists.plus mask).hi -ℤ (entry lists.minus mask).lo }
+  both mask = record {
+    lo = (entry lists.plus mask).lo -ℤ (entry lists.minus mask).hi;
+    hi = (entry lists.plus mask).hi -ℤ (entry lists.minus mask).lo;
+  }
 
-  share-encloses : (mask : ℕ) → mask < 2 ^ N → Encloses (share lists alive mask) (cond (lies_in (bits N mask) (in_set all)) (part (bits N mask)) (pos 0)) whole
+  share-encloses : (mask : ℕ) → mask < 2 ^ N
+      → Encloses (share lists alive mask) (cond (lies_in (bits N mask) (in_set all)) (part (bits N mask)) (pos 0)) whole
   share-encloses mask below = by-case (lies_in (bits N mask) (in_set all)) refl (within mask below)
     where
-      by-case : (lies : Bool) → lies_in (bits N mask) (in_set all) ≡ lies → is_within mask alive ≡ lies_in (bits N mask) (in_set all)
-          → Encloses (cond (is_within mask alive) (both mask) nothing) (cond (lies_in (bits N mask) (in_set all)) (part (bits N mask)) (pos 0)) whole
+      by-case : (lies : Bool)
+          → lies_in (bits N mask) (in_set all) ≡ lies → is_within mask alive ≡ lies_in (bits N mask) (in_set all)
+          → Encloses (cond (is_within mask alive) (both mask) nothing)
+          (cond (lies_in (bits N mask) (in_set all)) (part (bits N mask)) (pos 0)) whole
       by-case false lies same = rw (same, lies) (record { low = omega (arith, ints); high = omega (arith, ints) })
       by-case true lies same =
           let s : List Bool = bits N mask in
@@ -132,16 +158,24 @@ module _ (b : Basis) (rule : AreLives b.lives) (pay : PlainPay) (is : IsValidIns
           let others : ℕ = joint_survivors T (outside (in_set all) s) b.lives in
           let worth = set-value-is-worth b rule pay is events T in_time s (length-bits N mask) in
           let split = survivors-split T (in_set all) b.lives s (length-bits N mask) lies in
-          let den : whole ≡ length (taken b) * joint_survivors T (in_set s) b.lives * accumulated b T * others = rw split (omega arith) in
-          rw (same, lies) (encloses_at (both mask) (pos (set_worth above_zero b pay events T s) -ℤ pos (set_worth below_zero b pay events T s)) (part s) (length (taken b) * joint_survivors T (in_set s) b.lives * accumulated b T) whole others
-          (encloses_sub (entry lists.plus mask) (entry lists.minus mask) (both mask) _ _ (length (taken b) * joint_survivors T (in_set s) b.lives * accumulated b T) refl refl p.encloses m.encloses)
+          let den : whole ≡ length (taken b) * joint_survivors T (in_set s) b.lives * accumulated b T * others =
+          rw split (omega arith) in
+          rw (same, lies) (encloses_at
+          (both mask) (pos (set_worth above_zero b pay events T s) -ℤ pos (set_worth below_zero b pay events T s))
+          (part s) (length (taken b) * joint_survivors T (in_set s) b.lives * accumulated b T) whole others
+          (encloses_sub (entry lists.plus mask) (entry lists.minus mask) (both mask) _ _ (length
+          (taken b) * joint_survivors T (in_set s) b.lives * accumulated b T) refl refl p.encloses m.encloses)
           (ap (λ z. z *ℤ pos others) worth) den)
 
   -- the total encloses the sum of the parts of the subsets
   pub parts-enclosed : Encloses (total_of lists (2 ^ N) alive) (int_sum_over (subsets all) part) whole
   parts-enclosed =
-      let sum = sum-encloses (share lists alive) (λ mask. cond (lies_in (bits N mask) (in_set all)) (part (bits N mask)) (pos 0)) whole (2 ^ N) 0 (λ mask below. share-encloses mask (omega arith)) in
-      let e = int_sum_over-masks N (λ s. cond (lies_in s (in_set all)) (part s) (pos 0)) ∙ ap (λ (n : ℕ). int_sum_over (sets n) (λ s. cond (lies_in s (in_set all)) (part s) (pos 0))) (sym (length-bits N alive)) ∙ subsets-as-sets all part in
+      let sum = sum-encloses
+      (share lists alive) (λ mask. cond (lies_in (bits N mask) (in_set all)) (part (bits N mask)) (pos 0)) whole
+      (2 ^ N) 0 (λ mask below. share-encloses mask (omega arith)) in
+      let e = int_sum_over-masks N (λ s. cond (lies_in s (in_set all)) (part s) (pos 0))
+      ∙ ap (λ (n : ℕ). int_sum_over (sets n) (λ s. cond (lies_in s (in_set all)) (part s) (pos 0)))
+      (sym (length-bits N alive)) ∙ subsets-as-sets all part in
       rw e at sum
 
   abbrev wide : List Bool → ℕ
@@ -158,13 +192,16 @@ module _ (b : Basis) (rule : AreLives b.lives) (pay : PlainPay) (is : IsValidIns
           let s : List Bool = bits N mask in
           let more : ℕ = most_due (due_of above_zero pay events H s) T (H - T) in
           let less : ℕ = most_due (due_of below_zero pay events H s) T (H - T) in
-          let sum : (H - T) * ((4 * size_of s + 3) * more) + (H - T) * ((4 * size_of s + 3) * less) ≡ wide s = omega arith in
+          let sum : (H - T) * ((4 * size_of s + 3) * more) + (H - T) * ((4 * size_of s + 3) * less)
+          ≡ wide s = omega arith in
           record { near = omega (arith, ints, p.narrow.near, m.narrow.near, sum) }
 
   pub total-narrow : HasWidth (total_of lists (2 ^ N) alive) (sum_over (sets N) wide)
   total-narrow =
-      let sum = sum-narrow (share lists alive) (λ mask. wide (bits N mask)) (2 ^ N) 0 (λ mask below. share-narrow mask (omega arith)) in
-      let e = sym (int_sum_over-pos (numbers_from 0 (2 ^ N)) (λ mask. wide (bits N mask))) ∙ int_sum_over-masks N (λ s. pos (wide s)) ∙ int_sum_over-pos (sets N) wide in
+      let sum = sum-narrow
+      (share lists alive) (λ mask. wide (bits N mask)) (2 ^ N) 0 (λ mask below. share-narrow mask (omega arith)) in
+      let e = sym (int_sum_over-pos (numbers_from 0 (2 ^ N)) (λ mask. wide (bits N mask)))
+      ∙ int_sum_over-masks N (λ s. pos (wide s)) ∙ int_sum_over-pos (sets N) wide in
       rw (pos_injective _ _ e) at sum
 
 pub sets-enclose-value : SetsEncloseValue
@@ -175,10 +212,24 @@ sets-enclose-value b rule end pay is one in_time T lists held alive =
     let agrees : (i : ℕ) → i < N → has_bit alive i ≡ in_set all i = has_bit-bits N alive in
     let parts = parts-enclosed b rule pay is in_time all_events T lists held alive in
     let orders = insurance-by-sets b rule end pay is T all (length-bits N alive)
-        ∙ int_sum_over-swap (taken b) (subsets all) (λ order s. set_value b pay all_events (rank_in order) T s *ℤ pos (joint_survivors T (outside (in_set all) s) b.lives))
-        ∙ int_sum_over-ext (subsets all) _ _ (λ s. int_sum_over-scale_right (taken b) (pos (joint_survivors T (outside (in_set all) s) b.lives)) (λ order. set_value b pay all_events (rank_in order) T s)) in
+    ∙ int_sum_over-swap (taken b) (subsets all) (λ order s. set_value b pay all_events (rank_in order) T s
+    *ℤ pos (joint_survivors T (outside (in_set all) s) b.lives))
+    ∙ int_sum_over-ext (subsets all) _ _
+    (λ s. int_sum_over-scale_right (taken b) (pos (joint_survivors T (outside (in_set all) s) b.lives))
+    (λ order. set_value b pay all_events (rank_in order) T s)) in
     let whole = rw (← orders) at parts in
     record {
-      encloses = rw (numerator-agree b pay T (has_bit alive) (in_set all) agrees, joint-agree T b.lives (has_bit alive) (in_set all) agrees) whole;
-      narrow = record { near = omega (arith, ints, (total-narrow b rule pay is in_time all_events T lists held alive).near, sets-within-count b pay is one all_events T) };
+      encloses = rw (
+        numerator-agree b pay T (has_bit alive) (in_set all) agrees,
+        joint-agree T b.lives (has_bit alive) (in_set all) agrees,
+      ) whole;
+      narrow =
+          record {
+            near = omega (
+              arith,
+              ints,
+              (total-narrow b rule pay is in_time all_events T lists held alive).near,
+              sets-within-count b pay is one all_events T,
+            );
+          };
     }

@@ -35,5 +35,7 @@ same-tests false false h k = refl
 
 pub within-is : (n mask alive : ℕ) → mask < 2 ^ n → is_within mask alive ≡ lies_in (bits n mask) (has_bit alive)
 within-is n mask alive below = same-tests (is_within mask alive) (lies_in (bits n mask) (has_bit alive))
-    (λ within. all-lie (bits n mask) (has_bit alive) (λ i inside. within-has mask alive within i (bit-of-set n mask i inside)))
-    (λ lies. within-by mask alive (λ i there. lies-all (bits n mask) (has_bit alive) lies i (sym (has_bit-bits n mask i (bit-below n mask i below there)) ∙ there)))
+    (λ within. all-lie
+    (bits n mask) (has_bit alive) (λ i inside. within-has mask alive within i (bit-of-set n mask i inside)))
+    (λ lies. within-by mask alive (λ i there. lies-all
+    (bits n mask) (has_bit alive) lies i (sym (has_bit-bits n mask i (bit-below n mask i below there)) ∙ there)))

@@ -11,13 +11,15 @@ use Rattle.halo_insure.specs.Total.{HoldDues}
 
 -- the basis of a task, with the rule for ties of its group
 abbrev pub insured_basis : {n m : ℕ} → Task n m → Basis
-insured_basis task = basis_of task.group.now.file task.interest.now task.group.now.lives task.group.now.ties
+insured_basis task =
+    basis_of task.group.now.file task.interest.now task.group.now.lives task.group.now.ties
 
 -- its pay, with amount 1
 abbrev pub unit_pay : {n m : ℕ} → Task n m → PlainPay
 unit_pay task = of_one (pay_of task.pay.now)
 
--- the lists hold for each set of lives what is due on some events from time t on, whatever the time of the task's group
+-- the lists hold for each set of lives what is due on some events from time t on, whatever the time
+-- of the task's group
 abbrev pub HoldDuesOn : {n m : ℕ} → Task n m → SomeEvents → ℕ → Lists → Type 0
 HoldDuesOn {n} task events t lists = HoldDues (insured_basis task) (unit_pay task) events n t lists
 

@@ -20,10 +20,12 @@ use Rattle.halo_insure.specs.Dues.{due_of}
 use Rattle.halo_insure.specs.Leavings.{set_leavings, set_survivors}
 use Rattle.halo_insure.specs.OneSet.{EnclosesDues}
 
--- an interval encloses the value at T of what is due for a set by the parts of one sign; the chances of a year are at most 4 wide for each life
+-- an interval encloses the value at T of what is due for a set by the parts of one sign; the
+-- chances of a year are at most 4 wide for each life
 abbrev pub EnclosesSet : (ℤ → ℕ) → Basis → PlainPay → SomeEvents → List Bool → ℕ → Ends → Type 0
 EnclosesSet part b pay events s T i =
-    EnclosesDues b (set_leavings b pay events s) (set_survivors b s) (due_of part pay events (horizon b.lives pay.body) s)
+    EnclosesDues b (set_leavings b pay events s)
+    (set_survivors b s) (due_of part pay events (horizon b.lives pay.body) s)
     (4 * size_of s) T (horizon b.lives pay.body - T) i
 
 -- the entries of the sets of n lives enclose what is due for each of them at T
@@ -34,12 +36,15 @@ HoldDues b pay events n T lists = (mask : ℕ) → mask < 2 ^ n
 
 -- an interval encloses the value of an insurance at T with some lives alive, within its count
 pub record EnclosesInsurance (b : Basis) (pay : PlainPay) (T alive : ℕ) (i : Ends) : Type 0 where
-  pub encloses : Encloses i (pos (numerator b pay T (has_bit alive))) (denominator b T (has_bit alive))
+  pub encloses : Encloses i
+      (pos (numerator b pay T (has_bit alive))) (denominator b T (has_bit alive))
   pub narrow : HasWidth i (width_count (measures_of b pay))
 
--- the total over the sets of the lives alive is such an interval, whichever lives are alive and whatever the rule for ties
+-- the total over the sets of the lives alive is such an interval, whichever lives are alive and
+-- whatever the rule for ties
 abbrev pub SetsEncloseValue : Type 0
 SetsEncloseValue = (b : Basis) → AreLives b.lives → EndBy b.last_time b.lives
-    → (pay : PlainPay) → IsValidInsurance pay → pay.amount ≡ 1 → horizon b.lives pay.body ≤ b.last_time
+    → (pay : PlainPay)
+    → IsValidInsurance pay → pay.amount ≡ 1 → horizon b.lives pay.body ≤ b.last_time
     → (T : ℕ) (lists : Lists) → HoldDues b pay all_events (length b.lives) T lists
     → (alive : ℕ) → EnclosesInsurance b pay T alive (total_of lists (2 ^ length b.lives) alive)

@@ -13,11 +13,13 @@ use Rattle.halo_insure.specs.OneSet.{GoesBack}
 abbrev pub next_coefficient : {m : ℕ} → Year m → ℕ → ℤ
 next_coefficient year mask = cond year.goes_on (coefficient_at year.next.now mask) (pos 0)
 
--- a value of a set is carried back by a year, with what is due by the parts of its coefficients of one sign
+-- a value of a set is carried back by a year, with what is due by the parts of its coefficients of
+-- one sign
 abbrev pub SetGoesBack : {m : ℕ} → (ℤ → ℕ) → Year m → Lists → ℕ → Ends → Ends → Type 0
 SetGoesBack part year before mask later result =
     GoesBack later (entry before.leavings mask) (entry before.survivals mask) year.discount
-    (due_by part year.pays.payment year.pays.ends (coefficient_at year.here.now mask) (next_coefficient year mask)) result
+    (due_by part year.pays.payment year.pays.ends
+    (coefficient_at year.here.now mask) (next_coefficient year mask)) result
 
 -- so it is with both values of each set within `named`, and those of all other sets are 0
 pub record SetsGoBack {m : ℕ} (year : Year m) (named : ℕ) (before after : Lists) : Type 0 where

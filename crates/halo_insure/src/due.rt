@@ -6,16 +6,16 @@ ghost use Rattle.halo_model.specs.Payment.{factor};
 
 use halo_status::{Pay, Vary};
 
-/// What is due for a set at the end of a year: so many payments on a leaving, and so many on the end
-/// of a term if all of the set survive the year.
+/// What is due for a set at the end of a year: so many payments on a leaving, and so many on the
+/// end of a term if all of the set survive the year.
 #[derive(Clone, Copy)]
 pub(crate) struct Due {
     pub(crate) on_leaving: u32,
     pub(crate) at_end: u32,
 }
 
-/// What a year pays, for each 1 of a coefficient: a payment on a leaving, and whether as much falls on
-/// the end of a term.
+/// What a year pays, for each 1 of a coefficient: a payment on a leaving, and whether as much falls
+/// on the end of a term.
 #[derive(Clone, Copy)]
 pub(crate) struct YearPays {
     pub(crate) payment: u32,
@@ -51,7 +51,8 @@ fn below(coefficient: i64) -> u32
 /// What a pay of amount 1 pays for year `k`: nothing before the deferral, then its factor.
 pub(crate) fn payment_in(pay: &Pay, k: u16) -> u32
     requires { k ≤ 200 }
-    ensures payment { result ≡ cond (nat_le pay.now.defer k) (factor pay.now.vary (k - pay.now.defer)) 0 }
+    ensures payment { result ≡
+        cond (nat_le pay.now.defer k) (factor pay.now.vary (k - pay.now.defer)) 0 }
     ensures small { result ≤ 65535 }
 {
     if k < pay.defer {
@@ -80,8 +81,8 @@ fn due_from(year: YearPays, part: u32, lost: u32) -> Due
     }
 }
 
-/// What is due in a year by the coefficients above 0, for a set with the coefficient `here` in it and
-/// `next` in the year after.
+/// What is due in a year by the coefficients above 0, for a set with the coefficient `here` in it
+/// and `next` in the year after.
 pub(crate) fn due_above(year: YearPays, here: i64, next: i64) -> Due
     requires payment { year.payment ≤ 65535 }
     requires here { IsSized here 4096 }

@@ -1,4 +1,5 @@
-// On which events a payment of an insurance can fall: those of the part of its body whose failing it pays.
+// On which events a payment of an insurance can fall: those of the part of its body whose failing
+// it pays.
 ghost use Rattle.std.specs.Prelude.{◌≡◌, ℕ};
 ghost use Rattle.halo_sums.specs.Masks.{has_bit};
 ghost use Rattle.halo_status.specs.Naming.{AnyNamesLivesBelow, NamesLivesBelow, names_life, names_term};
@@ -32,7 +33,8 @@ pub(crate) fn failing_lives(pay: &Pay) -> u16
 // The lives that the member at a place names.
 fn member_lives(members: &Members, place: usize) -> u16
     requires { AnyNamesLivesBelow 16 (trees_in members.now) }
-    ensures { (i : ℕ) → has_bit result i ≡ holds_of (member_at (trees_in members.now) place) (names_life i) }
+    ensures { (i : ℕ) → has_bit result i ≡
+        holds_of (member_at (trees_in members.now) place) (names_life i) }
 {
     if place < members.len() {
         members.at(place).lives()

@@ -8,16 +8,16 @@ pub fn sets_are_within_the_count()
     ensures { SetsWithinCount }
 {}
 
-/// The value of an insurance for a set of lives, summed over the orders taken, is what the coefficients
-/// of the set that are above 0 are worth, less what those below 0 are. From the horizon on nothing is
-/// due for a set.
+/// The value of an insurance for a set of lives, summed over the orders taken, is what the
+/// coefficients of the set that are above 0 are worth, less what those below 0 are. From the
+/// horizon on nothing is due for a set.
 pub fn set_values_by_signs()
     ensures worth { SetValueIsWorth }
     ensures horizon { NothingIsDueAfter }
 {}
 
-/// The sum over the sets of the lives alive, of intervals that enclose what each set is worth by the
-/// signs of its coefficients, encloses the value of the insurance and is within its count.
+/// The sum over the sets of the lives alive, of intervals that enclose what each set is worth by
+/// the signs of its coefficients, encloses the value of the insurance and is within its count.
 pub fn sets_enclose_the_value()
     ensures { SetsEncloseValue }
 {}

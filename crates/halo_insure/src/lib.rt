@@ -1,8 +1,9 @@
 //! The values of insurances: on one event or on all, by sets of lives, from the last year back.
 //!
-//! For each set of lives the value is found as if just these lives were alive, with the coefficients
-//! of the insurance's form: a year back, what is due at the end of the year and what comes after are
-//! discounted together. The value for the lives alive is the sum over their sets.
+//! For each set of lives the value is found as if just these lives were alive, with the
+//! coefficients of the insurance's form: a year back, what is due at the end of the year and what
+//! comes after are discounted together. One pass from the horizon back gives the values of all sets
+//! at each time, and the value for some lives alive is the sum over their sets.
 #![tactic(auto)]
 
 mod due;

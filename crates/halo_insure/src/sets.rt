@@ -14,8 +14,8 @@ use halo_num::{Ival, Steps};
 use halo_poly::Poly;
 use std::sync::ledger::Ledger;
 
-/// A year of an insurance: its discount, what it pays, and the coefficients of all sets in it and in
-/// the year after, if the form goes on until then.
+/// A year of an insurance: its discount, what it pays, and the coefficients of all sets in it and
+/// in the year after, if the form goes on until then.
 #[derive(Clone, Copy)]
 pub(crate) struct Year<'a, const M: usize> {
     pub(crate) discount: Ival,
@@ -69,10 +69,10 @@ fn set_back<const M: usize, L: Ledger>(
     requires survival { IsWithin (entry work.old.survivals set) (pos 0) (pos fine) }
     requires plus { IsWithin (entry work.old.plus set) (pos 0) (pos (10 ^ 32)) }
     requires minus { IsWithin (entry work.old.minus set) (pos 0) (pos (10 ^ 32)) }
-    ensures plus {
-        SetGoesBack above_zero year.now work.old set (entry work.old.plus set) (entry work.new.plus set) }
-    ensures minus {
-        SetGoesBack below_zero year.now work.old set (entry work.old.minus set) (entry work.new.minus set) }
+    ensures plus { SetGoesBack above_zero year.now work.old set
+        (entry work.old.plus set) (entry work.new.plus set) }
+    ensures minus { SetGoesBack below_zero year.now work.old set
+        (entry work.old.minus set) (entry work.new.minus set) }
     ensures others { (mask : ℕ) → mask ≢ set →
         (entry work.new.plus mask ≡ entry work.old.plus mask)
         × (entry work.new.minus mask ≡ entry work.old.minus mask) }
@@ -106,14 +106,16 @@ fn named_set_back<const M: usize, L: Ledger>(
     requires payment { year.now.pays.payment ≤ 65535 }
     requires here { IsSized (coefficient_at year.now.here.now set) 4096 }
     requires next { IsSized (coefficient_at year.now.next.now set) 4096 }
-    requires leaving { is_within set named ≡ true → IsWithin (entry work.old.leavings set) (pos 0) (pos fine) }
-    requires survival { is_within set named ≡ true → IsWithin (entry work.old.survivals set) (pos 0) (pos fine) }
+    requires leaving { is_within set named ≡ true →
+        IsWithin (entry work.old.leavings set) (pos 0) (pos fine) }
+    requires survival { is_within set named ≡ true →
+        IsWithin (entry work.old.survivals set) (pos 0) (pos fine) }
     requires plus { IsWithin (entry work.old.plus set) (pos 0) (pos (10 ^ 32)) }
     requires minus { IsWithin (entry work.old.minus set) (pos 0) (pos (10 ^ 32)) }
-    ensures plus { is_within set named ≡ true →
-        SetGoesBack above_zero year.now work.old set (entry work.old.plus set) (entry work.new.plus set) }
-    ensures minus { is_within set named ≡ true →
-        SetGoesBack below_zero year.now work.old set (entry work.old.minus set) (entry work.new.minus set) }
+    ensures plus { is_within set named ≡ true → SetGoesBack above_zero year.now work.old set
+        (entry work.old.plus set) (entry work.new.plus set) }
+    ensures minus { is_within set named ≡ true → SetGoesBack below_zero year.now work.old set
+        (entry work.old.minus set) (entry work.new.minus set) }
     ensures none { is_within set named ≡ false →
         (entry work.new.plus set ≡ nothing) × (entry work.new.minus set ≡ nothing) }
     ensures others { (mask : ℕ) → mask ≢ set →

@@ -18,7 +18,8 @@ use halo_life::Work;
 use halo_num::Steps;
 use std::sync::ledger::Ledger;
 
-/// The values of all sets at the horizon of the task, and at any later time: nothing is due any more.
+/// The values of all sets at the horizon of the task, and at any later time: nothing is due any
+/// more.
 pub fn at_horizon<const N: usize, const M: usize>(task: &Task<N, M>, work: &mut Work<M>)
     requires task { IsTask task.now }
     requires insurance { task.now.pay.now.kind ≡ Insurance }
@@ -30,8 +31,10 @@ pub fn at_horizon<const N: usize, const M: usize>(task: &Task<N, M>, work: &mut 
     }
 }
 
-/// The values of all sets at time `k`, by those at time k + 1. They do not depend on the time of the
-/// task's group, nor on who is alive then.
+/// The values of all sets at time `k`, by those at time k + 1. They do not depend on the time of
+/// the task's group, nor on who is alive then.
+///
+/// The counter is raised by the products of the chances of the year, and by five for each set.
 pub fn year_back<const N: usize, const M: usize, L: Ledger>(
     task: &Task<N, M>,
     k: u16,
@@ -73,7 +76,8 @@ fn carry_back<const N: usize, const M: usize, L: Ledger>(
     let _start = task.group.start();
     let named = task.pay.body.lives();
     task.group.survivals(k, named, work, steps);
-    task.group.leavings(k, named, counted, task.pay.causes, work, steps);
+    task.group
+        .leavings(k, named, counted, task.pay.causes, work, steps);
     let year = Year {
         discount: task.interest.year(k),
         pays: YearPays {

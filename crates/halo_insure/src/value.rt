@@ -16,9 +16,9 @@ use halo_life::Work;
 use halo_num::{Ival, ONE_IN_FINE_UNITS};
 use halo_status::Vary;
 
-/// The value at time `t` of an insurance of 1 with the lives of a set alive, each of which has a row at
-/// its age then: of the payments at the ends of the years from `t` on, by the rule for ties of the
-/// task's group. It is no wider than its count, and from 0 to the most that it can be worth.
+/// The value at time `t` of an insurance of 1 with the lives of a set alive, each of which has a
+/// row at its age then: of the payments at the ends of the years from `t` on, by the rule for ties of
+/// the task's group. It is no wider than its count, and from 0 to the most that it can be worth.
 pub fn value_at<const N: usize, const M: usize>(
     task: &Task<N, M>,
     t: u16,
@@ -28,7 +28,8 @@ pub fn value_at<const N: usize, const M: usize>(
     requires task { IsTask task.now }
     requires insurance { task.now.pay.now.kind ≡ Insurance }
     requires values { HoldDuesAt task.now t work.now }
-    requires alive { (i : ℕ) → i < N → has_bit alive i ≡ true → 0 < survivors_in task.now.group.now t i }
+    requires alive { (i : ℕ) → i < N → has_bit alive i ≡ true →
+        0 < survivors_in task.now.group.now t i }
     ensures { EnclosesOne (insured_basis task.now) (unit_pay task.now) t (has_bit alive) result }
 {
     // The proof sees here that the lives have rows, and that each year has a fraction.
@@ -42,7 +43,8 @@ pub fn value_at<const N: usize, const M: usize>(
 fn at_most(total: Ival, most: u16) -> Ival
     requires meets_most { total.lo ≤ℤ pos (most * fine) }
     requires meets_none { pos 0 ≤ℤ total.hi }
-    ensures encloses { (num den : ℕ) → num ≤ most * den → Encloses total (pos num) den → Encloses result (pos num) den }
+    ensures encloses { (num den : ℕ) → num ≤ most * den →
+        Encloses total (pos num) den → Encloses result (pos num) den }
     ensures narrow { (w : ℕ) → HasWidth total w → HasWidth result w }
     ensures within { IsWithin result (pos 0) (pos (most * fine)) }
 {

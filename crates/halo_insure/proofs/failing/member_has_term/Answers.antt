@@ -4,7 +4,8 @@ use Rattle.halo_insure.proofs.Members.{member-is, no-member}
 use Rattle.halo_insure.proofs.failing.member_has_term.Goals as goal
 
 pub returns-then-place-len : goal.returns-then-place-len
-returns-then-place-len c = rw (member-is c.args.members.now c.args.place c.at.result.now c.at.ensures) c.has_term.ensures
+returns-then-place-len c =
+    rw (member-is c.args.members.now c.args.place c.at.result.now c.at.ensures) c.has_term.ensures
 
 pub returns-else-place-len : goal.returns-else-place-len
 returns-else-place-len c =

@@ -6,7 +6,8 @@ use Rattle.halo_insure.proofs.one_year.payments.Goals as goal
 pub returns-clause-bound : goal.returns-clause-bound
 returns-clause-bound c =
     let k : to_z w64 (of_z w64 c.from.result) ≡ pos c.args.count = search (rules, to_z-of_z) in
-    multiple-bound c.scale.result c.args.chance c.args.count (rw k at c.scale.ensures.hi) c.lo-lowest.ensures.order c.requires.chance.high
+    multiple-bound c.scale.result c.args.chance c.args.count
+    (rw k at c.scale.ensures.hi) c.lo-lowest.ensures.order c.requires.chance.high
 
 pub returns-clause-narrow : goal.returns-clause-narrow
 returns-clause-narrow c = λ w h.

@@ -23,7 +23,8 @@ pub returns-clause-back : goal.returns-clause-back
 returns-clause-back g c =
     let due : ℕ = c.args.due.on_leaving + c.args.due.at_end in
     let sum : (b : ℕ) → c.args.later.hi ≤ℤ pos (b * fine) → c.add.result.hi ≤ℤ pos ((due + b) * fine) = λ b h.
-    let carry = c.mul-carried.ensures.bound b 1 h c.requires.survival.high in omega (arith, ints, c.add.ensures.hi, c.due_in_year-due.ensures.bound, carry) in
+    let carry = c.mul-carried.ensures.bound b 1 h c.requires.survival.high in
+    omega (arith, ints, c.add.ensures.hi, c.due_in_year-due.ensures.bound, carry) in
     let bound : (b : ℕ) → c.args.later.hi ≤ℤ pos (b * fine) → c.mul.result.hi ≤ℤ pos ((due + b) * fine) = λ b h.
     let all = c.mul.ensures.bound (due + b) 1 (sum b h) c.requires.discount.high in omega (arith, ints, all) in
     record {
@@ -32,11 +33,15 @@ returns-clause-back g c =
       narrow = λ b w d h later leaving survival discount.
           let width = c.mul-carried.ensures.width w d b 1 h c.requires.survival.high later survival in
           year-narrow c.mul.result due b w d c.mul.ensures.from (bound b h)
-          (c.mul.ensures.width (due * d + (w * 1 + d * b + 1)) 1 (due + b) 1 (sum b h) c.requires.discount.high (c.add.ensures.narrow (due * d) (w * 1 + d * b + 1) (c.due_in_year-due.ensures.narrow d leaving survival) width) discount);
+          (c.mul.ensures.width
+          (due * d + (w * 1 + d * b + 1)) 1 (due + b) 1 (sum b h) c.requires.discount.high (c.add.ensures.narrow
+          (due * d) (w * 1 + d * b + 1) (c.due_in_year-due.ensures.narrow d leaving survival) width) discount);
       encloses = λ left alive start x rest q i leaves survives discounts value none.
-          back c.due_in_year-due.result c.add.result c.mul.result c.args.discount c.mul-carried.result (c.args.due.on_leaving * left + c.args.due.at_end * alive) start x rest q i
+          back c.due_in_year-due.result c.add.result c.mul.result c.args.discount c.mul-carried.result
+          (c.args.due.on_leaving * left + c.args.due.at_end * alive) start x rest q i
           c.add.ensures.encloses c.mul.ensures.encloses
           (c.due_in_year-due.ensures.encloses left alive start leaves survives)
-          (carried c.mul-carried.result c.args.later c.args.chances.now.survival alive start x rest c.lo-lowest.ensures.order c.mul-carried.ensures.encloses survives value none)
+          (carried c.mul-carried.result c.args.later c.args.chances.now.survival
+          alive start x rest c.lo-lowest.ensures.order c.mul-carried.ensures.encloses survives value none)
           discounts;
     }

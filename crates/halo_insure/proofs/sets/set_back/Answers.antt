@@ -6,13 +6,22 @@ use Rattle.halo_insure.proofs.sets.set_back.Goals as goal
 pub returns-clause-plus : goal.returns-clause-plus
 returns-clause-plus g c =
     let here : to_z w64 (of_z w64 c.coefficient-here.result) ≡ c.coefficient-here.result = search (rules, to_z-of_z) in
-    let next : to_z w64 (of_z w64 c.next_coefficient-next.result) ≡ c.next_coefficient-next.result = search (rules, to_z-of_z) in
-    let due = due-is above_zero c.due_above-above.result c.args.year.now.pays.payment c.args.year.now.pays.ends c.coefficient-here.result c.next_coefficient-next.result _ _ c.coefficient-here.ensures.value c.next_coefficient-next.ensures.value (rw here at c.due_above-above.ensures.on_leaving) (rw (here, next) at c.due_above-above.ensures.at_end) in
+    let next : to_z w64 (of_z w64 c.next_coefficient-next.result) ≡ c.next_coefficient-next.result =
+    search (rules, to_z-of_z) in
+    let due = due-is above_zero
+    c.due_above-above.result c.args.year.now.pays.payment c.args.year.now.pays.ends c.coefficient-here.result
+    c.next_coefficient-next.result _ _ c.coefficient-here.ensures.value c.next_coefficient-next.ensures.value
+    (rw here at c.due_above-above.ensures.on_leaving) (rw (here, next) at c.due_above-above.ensures.at_end) in
     rw (c.put.ensures.plus, ← due, ← c.plus.ensures, ← c.leaving.ensures, ← c.at.ensures) c.value_back-plus.ensures.back
 
 pub returns-clause-minus : goal.returns-clause-minus
 returns-clause-minus g c =
     let here : to_z w64 (of_z w64 c.coefficient-here.result) ≡ c.coefficient-here.result = search (rules, to_z-of_z) in
-    let next : to_z w64 (of_z w64 c.next_coefficient-next.result) ≡ c.next_coefficient-next.result = search (rules, to_z-of_z) in
-    let due = due-is below_zero c.due_below-below.result c.args.year.now.pays.payment c.args.year.now.pays.ends c.coefficient-here.result c.next_coefficient-next.result _ _ c.coefficient-here.ensures.value c.next_coefficient-next.ensures.value (rw here at c.due_below-below.ensures.on_leaving) (rw (here, next) at c.due_below-below.ensures.at_end) in
-    rw (c.put.ensures.minus, ← due, ← c.minus.ensures, ← c.leaving.ensures, ← c.at.ensures) c.value_back-minus.ensures.back
+    let next : to_z w64 (of_z w64 c.next_coefficient-next.result) ≡ c.next_coefficient-next.result =
+    search (rules, to_z-of_z) in
+    let due = due-is below_zero
+    c.due_below-below.result c.args.year.now.pays.payment c.args.year.now.pays.ends c.coefficient-here.result
+    c.next_coefficient-next.result _ _ c.coefficient-here.ensures.value c.next_coefficient-next.ensures.value
+    (rw here at c.due_below-below.ensures.on_leaving) (rw (here, next) at c.due_below-below.ensures.at_end) in
+    rw (c.put.ensures.minus, ← due, ← c.minus.ensures, ← c.leaving.ensures, ← c.at.ensures)
+    c.value_back-minus.ensures.back

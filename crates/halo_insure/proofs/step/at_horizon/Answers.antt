@@ -8,7 +8,8 @@ pub returns : goal.returns
 returns g c = record {
   values = λ t past.
       let task = c.args.task.now in
-      none-held (insured_basis task) (unit_pay task) all_events g.row.N t c.loop-set.work (rw (← c.requires.task.horizon_is) past)
+      none-held (insured_basis task)
+      (unit_pay task) all_events g.row.N t c.loop-set.work (rw (← c.requires.task.horizon_is) past)
       (λ mask h. c.loop-set.invariant.plus mask (omega (arith, h, c.requires.task.sets, c.loop-set-test.false)))
       (λ mask h. c.loop-set.invariant.minus mask (omega (arith, h, c.requires.task.sets, c.loop-set-test.false)));
 }

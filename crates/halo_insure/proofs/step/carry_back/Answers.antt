@@ -7,16 +7,20 @@ use Rattle.halo_insure.proofs.Tasks.{are-lives, count-lives, few-sets, has-form,
 use Rattle.halo_insure.proofs.step.carry_back.Goals as goal
 
 pub survivals-requires : goal.survivals-requires
-survivals-requires g c = (lit< tt, (lit< tt, (c.requires.task.sets, omega (arith, c.requires.time, c.requires.task.horizon_in))))
+survivals-requires g c =
+    (lit< tt, (lit< tt, (c.requires.task.sets, omega (arith, c.requires.time, c.requires.task.horizon_in))))
 
 pub leavings-requires : goal.leavings-requires
-leavings-requires g c = (lit< tt, (lit< tt, (c.requires.task.sets, omega (arith, c.requires.time, c.requires.task.horizon_in))))
+leavings-requires g c =
+    (lit< tt, (lit< tt, (c.requires.task.sets, omega (arith, c.requires.time, c.requires.task.horizon_in))))
 
 pub at-requires : goal.at-requires
-at-requires g c = (lit< tt, (lit< tt, has-form c.args.task.now c.requires.task c.requires.insurance c.args.k c.requires.time))
+at-requires g c =
+    (lit< tt, (lit< tt, has-form c.args.task.now c.requires.task c.requires.insurance c.args.k c.requires.time))
 
 pub at-requires-2 : goal.at-requires-2
-at-requires-2 g c = (lit< tt, (lit< tt, has-form c.args.task.now c.requires.task c.requires.insurance _ c.next_time.ensures.within))
+at-requires-2 g c =
+    (lit< tt, (lit< tt, has-form c.args.task.now c.requires.task c.requires.insurance _ c.next_time.ensures.within))
 
 pub sets_back-requires : goal.sets_back-requires
 sets_back-requires g c =
@@ -34,14 +38,24 @@ sets_back-requires g c =
             (
               c.payment_in.ensures.small,
               (
-                λ mask h. rw (unit-coefficients task c.args.k c.at.result.now (c.at.ensures (pay_of task.pay.now) g.row.N task.horizon is.form) mask (within mask h)) (coefficient-room (unit_pay task) c.args.k g.row.N mask few),
+                λ mask h. rw (unit-coefficients task c.args.k c.at.result.now
+                    (c.at.ensures (pay_of task.pay.now) g.row.N task.horizon is.form) mask (within mask h))
+                    (coefficient-room (unit_pay task) c.args.k g.row.N mask few),
                 (
-                  λ mask h. rw (unit-coefficients task c.next_time.result c.at-2.result.now (c.at-2.ensures (pay_of task.pay.now) g.row.N task.horizon is.form) mask (within mask h)) (coefficient-room (unit_pay task) c.next_time.result g.row.N mask few),
+                  λ mask h. rw (unit-coefficients task c.next_time.result c.at-2.result.now
+                      (c.at-2.ensures (pay_of task.pay.now) g.row.N task.horizon is.form) mask (within mask h))
+                      (coefficient-room (unit_pay task) c.next_time.result g.row.N mask few),
                   (
                     λ mask h inside. (c.leavings.ensures.chances mask (within mask h) inside).within,
                     (
-                      λ mask h inside. rw c.leavings.ensures.survivals ((c.survivals.ensures.chances mask (within mask h) inside).within),
-                      λ mask h. rw (c.leavings.ensures.plus, c.leavings.ensures.minus, c.survivals.ensures.plus, c.survivals.ensures.minus) (c.requires.modest mask h),
+                      λ mask h inside. rw c.leavings.ensures.survivals
+                          ((c.survivals.ensures.chances mask (within mask h) inside).within),
+                      λ mask h. rw (
+                        c.leavings.ensures.plus,
+                        c.leavings.ensures.minus,
+                        c.survivals.ensures.plus,
+                        c.survivals.ensures.minus,
+                      ) (c.requires.modest mask h),
                     ),
                   ),
                 ),
@@ -60,14 +74,19 @@ returns-clause-values g c = λ events counting ends held.
     let b = insured_basis task in
     let poly = c.at.ensures (pay_of task.pay.now) g.row.N task.horizon is.form in
     let later = c.at-2.ensures (pay_of task.pay.now) g.row.N task.horizon is.form in
-    dues-carried {m = g.row.M} g.row.N is.sets b (are-lives task group) (unit_pay task) refl events (count-lives task group) c.args.k (rw (← is.horizon_is) is.horizon_in) (rw (← is.horizon_is) c.requires.time)
+    dues-carried {m = g.row.M} g.row.N is.sets b (are-lives task group) (unit_pay task) refl events
+    (count-lives task group) c.args.k (rw (← is.horizon_is) is.horizon_in) (rw (← is.horizon_is) c.requires.time)
     _ c.year.ensures.encloses c.year.ensures.narrow c.payment_in.ensures.payment ends
     (λ mask h. unit-coefficients task c.args.k c.at.result.now poly mask h)
-    (λ mask h. rw (← is.horizon_is) (next-of-form task c.args.k c.next_time.result c.goes_on.result c.at-2.result.now later c.goes_on.ensures c.next_time.ensures.next mask h))
+    (λ mask h. rw (← is.horizon_is) (next-of-form task c.args.k
+    c.next_time.result c.goes_on.result c.at-2.result.now later c.goes_on.ensures c.next_time.ensures.next mask h))
     c.lives-named.result c.args.counted c.lives-named.ensures counting
     c.leavings.new.into c.sets_back.new.work
-    (λ mask h inside. rw c.leavings.ensures.survivals (c.survivals.ensures.chances mask h inside)) c.leavings.ensures.chances c.sets_back.ensures.back
-    (held-same b (unit_pay task) events g.row.N (suc c.args.k) c.args.work.now c.leavings.new.into (c.leavings.ensures.plus ∙ c.survivals.ensures.plus) (c.leavings.ensures.minus ∙ c.survivals.ensures.minus) held)
+    (λ mask h inside. rw c.leavings.ensures.survivals (c.survivals.ensures.chances mask h inside))
+    c.leavings.ensures.chances c.sets_back.ensures.back
+    (held-same b (unit_pay task) events g.row.N
+    (suc c.args.k) c.args.work.now c.leavings.new.into (c.leavings.ensures.plus ∙ c.survivals.ensures.plus)
+    (c.leavings.ensures.minus ∙ c.survivals.ensures.minus) held)
 
 pub returns-clause-cost : goal.returns-clause-cost
 returns-clause-cost g c =

@@ -19,7 +19,9 @@ carry_back-requires g c =
             (
               c.requires.time,
               subst (λ (m : ℕ). AreModest m c.args.work.now) (sym is.sets)
-                  (dues-modest (insured_basis task) (unit_pay task) refl is.valid.vary (rw (← is.horizon_is) is.horizon_in) all_events g.row.N c.start-start.ensures.group.few (suc c.args.k) c.args.work.now c.requires.values),
+                  (dues-modest (insured_basis task) (unit_pay task) refl is.valid.vary
+                  (rw (← is.horizon_is) is.horizon_in) all_events g.row.N c.start-start.ensures.group.few
+                  (suc c.args.k) c.args.work.now c.requires.values),
             ),
           ),
         ),
@@ -29,4 +31,5 @@ carry_back-requires g c =
 pub returns-clause-values : goal.returns-clause-values
 returns-clause-values g c =
     let next : c.args.k + 1 ≡ suc c.args.k = omega arith in
-    c.carry_back.ensures.values all_events c.failing_lives-counted.ensures (rw next at c.can_fall_on_term-ends.ensures) c.requires.values
+    c.carry_back.ensures.values all_events c.failing_lives-counted.ensures
+    (rw next at c.can_fall_on_term-ends.ensures) c.requires.values

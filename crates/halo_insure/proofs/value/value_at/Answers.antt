@@ -18,7 +18,8 @@ total-total-requires g c =
       (
         few-sets g.row.N g.row.M is.sets few,
         subst (λ (m : ℕ). AreModest m c.args.work.now) (sym is.sets)
-            (dues-modest (insured_basis task) (unit_pay task) refl is.valid.vary (rw (← is.horizon_is) is.horizon_in) all_events g.row.N few c.args.t c.args.work.now c.requires.values),
+            (dues-modest (insured_basis task) (unit_pay task) refl is.valid.vary
+            (rw (← is.horizon_is) is.horizon_in) all_events g.row.N few c.args.t c.args.work.now c.requires.values),
       ),
     )
 
@@ -26,26 +27,37 @@ pub at_most-requires-clause-meets_most : goal.at_most-requires-clause-meets_most
 at_most-requires-clause-meets_most g c =
     let task = c.args.task.now in
     let group = c.start-start.ensures.group in
-    let all = total-encloses task c.requires.task group c.requires.insurance c.args.t c.args.alive c.args.work.now c.total-total.result c.requires.values c.total-total.ensures.lo c.total-total.ensures.hi in
-    meets-above c.total-total.result _ _ c.greatest_factor.result (some-denominator task group c.fractions-fractions.ensures.interest c.args.t c.args.alive c.requires.alive) all.encloses
-    (task-bounded task c.requires.task group c.requires.insurance c.args.t c.args.alive c.greatest_factor.result c.greatest_factor.ensures)
+    let all = total-encloses task c.requires.task group c.requires.insurance c.args.t c.args.alive
+    c.args.work.now c.total-total.result c.requires.values c.total-total.ensures.lo c.total-total.ensures.hi in
+    meets-above c.total-total.result _ _ c.greatest_factor.result (some-denominator
+    task group c.fractions-fractions.ensures.interest c.args.t c.args.alive c.requires.alive) all.encloses
+    (task-bounded task c.requires.task
+    group c.requires.insurance c.args.t c.args.alive c.greatest_factor.result c.greatest_factor.ensures)
 
 pub at_most-requires-clause-meets_none : goal.at_most-requires-clause-meets_none
 at_most-requires-clause-meets_none g c =
     let task = c.args.task.now in
     let group = c.start-start.ensures.group in
-    let all = total-encloses task c.requires.task group c.requires.insurance c.args.t c.args.alive c.args.work.now c.total-total.result c.requires.values c.total-total.ensures.lo c.total-total.ensures.hi in
-    meets-below c.total-total.result _ _ (some-denominator task group c.fractions-fractions.ensures.interest c.args.t c.args.alive c.requires.alive) all.encloses
+    let all = total-encloses task c.requires.task group c.requires.insurance c.args.t c.args.alive
+    c.args.work.now c.total-total.result c.requires.values c.total-total.ensures.lo c.total-total.ensures.hi in
+    meets-below c.total-total.result _ _ (some-denominator
+    task group c.fractions-fractions.ensures.interest c.args.t c.args.alive c.requires.alive) all.encloses
 
 pub returns : goal.returns
 returns g c =
     let task = c.args.task.now in
     let group = c.start-start.ensures.group in
-    let all = total-encloses task c.requires.task group c.requires.insurance c.args.t c.args.alive c.args.work.now c.total-total.result c.requires.values c.total-total.ensures.lo c.total-total.ensures.hi in
-    let most = most-of-task task c.requires.task group c.requires.insurance c.greatest_factor.result c.greatest_factor.ensures in
+    let all = total-encloses task c.requires.task group c.requires.insurance c.args.t c.args.alive
+    c.args.work.now c.total-total.result c.requires.values c.total-total.ensures.lo c.total-total.ensures.hi in
+    let most = most-of-task
+    task c.requires.task group c.requires.insurance c.greatest_factor.result c.greatest_factor.ensures in
     let high = ap (λ (n : ℕ). n * fine) most in
     record {
-      encloses = c.at_most.ensures.encloses _ _ (task-bounded task c.requires.task group c.requires.insurance c.args.t c.args.alive c.greatest_factor.result c.greatest_factor.ensures) all.encloses;
+      encloses = c.at_most.ensures.encloses _ _ (task-bounded task c.requires.task group
+          c.requires.insurance c.args.t c.args.alive c.greatest_factor.result c.greatest_factor.ensures) all.encloses;
       narrow = c.at_most.ensures.narrow _ all.narrow;
-      within = record { low = c.at_most.ensures.within.low; high = omega (arith, ints, c.at_most.ensures.within.high, high) };
+      within = record {
+        low = c.at_most.ensures.within.low;
+        high = omega (arith, ints, c.at_most.ensures.within.high, high);
+      };
     }
