@@ -44,7 +44,8 @@ module _ (b : Basis) (leaving alive : ℕ → ℕ) (ended : (k : ℕ) → EndWit
         from = back.from;
         bound = back.bound (most_due due (suc k) years) after.bound;
         narrow =
-            wider result _ _ (years-wide d years (most_due due (suc k) years) (most_due due k (suc years)) (omega arith))
+            wider result _ _
+            (years-wide d years (most_due due (suc k) years) (most_due due k (suc years)) (omega arith))
             (back.narrow (most_due due (suc k) years) (years * ((d + 3) * most_due due (suc k) years)) d after.bound
             after.narrow (wider leave v d narrow_v leaves.narrow) (wider survive w d narrow_w survives.narrow) one);
       }
