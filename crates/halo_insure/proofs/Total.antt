@@ -62,11 +62,6 @@ numerator-agree : (b : Basis) (pay : PlainPay) (T : ℕ) (S U : ℕ → Bool)
 unfolding numerator
 numerator-agree b pay T S U h = rw (outcomes-agree T b.lives S U h) refl
 
-denominator-agree : (b : Basis) (T : ℕ) (S U : ℕ → Bool)
-    → ((i : ℕ) → i < length b.lives → S i ≡ U i) → denominator b T S ≡ denominator b T U
-unfolding denominator
-denominator-agree b T S U h = ap (λ (j : ℕ). length (taken b) * (j * accumulated b T)) (joint-agree T b.lives S U h)
-
 -- a sum over the subsets of a set is one over all sets of which those that lie in it count
 subsets-as-sets : (u : List Bool) (f : List Bool → ℤ)
     → int_sum_over (sets (length u)) (λ s. cond (lies_in s (in_set u)) (f s) (pos 0)) ≡ int_sum_over (subsets u) f
