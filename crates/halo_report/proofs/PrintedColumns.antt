@@ -42,6 +42,6 @@ printed-entries-enclose c entry w most i e = record {
       e.encloses;
   narrow =
       let near = width_printed (floor_of i.lo) (ceiling_of i.hi) i.lo i.hi w (is-floor i.lo) (is-ceiling i.hi)
-          e.narrow.near in
+      e.narrow.near in
       omega (arith, ints, near);
 }

@@ -6,4 +6,4 @@ use Rattle.halo_report.proofs.value.write_numbered.Given as goal
 abbrev pub invariant-loop-place : goal.invariant-loop-place
 invariant-loop-place l =
     l.into.items ++ numbered_lines l.word (l.place + 1) (drop l.place l.list)
-        ≡ l.fn.into.items ++ numbered_lines l.word 1 l.list
+    ≡ l.fn.into.items ++ numbered_lines l.word 1 l.list
