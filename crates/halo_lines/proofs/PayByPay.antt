@@ -39,7 +39,8 @@ amounts-first : {X : Type 0} (f : X → PlainPay) (xs : List X) (n : ℕ) → am
 amounts-first f xs n =
     let parts : map f (take n xs) ++ map f (drop n xs) ≡ map f xs
     = sym (map-append f (take n xs) (drop n xs)) ∙ ap (map f) (take-append-drop n xs) in
-    omega (arith, ap amounts parts, sum_over-append (map f (take n xs)) (map f (drop n xs)) (λ (p : PlainPay). p.amount))
+    omega
+    (arith, ap amounts parts, sum_over-append (map f (take n xs)) (map f (drop n xs)) (λ (p : PlainPay). p.amount))
 
 -- what is known of the pay at a place and of its value
 pub record IsPayAt (pays : List Pay) (values : List Ends) (place : ℕ) (pay : Pay) (value : Ends) : Type 0 where
@@ -57,12 +58,14 @@ pay-at pays values place d value has same within value_at =
     let before = map pay_of (take place pays) in
     let listed : map pay_of (take (place + 1) pays) ≡ before ++ pay_of pay ∷ [] = map_more pay_of pays place d within in
     let first = amounts-first pay_of pays (place + 1) in
-    let mapped : get_or (map pay_of pays) place (pay_of d) ≡ pay_of pay = get_or-map pay_of pays place d (pay_of d) within in
+    let mapped : get_or (map pay_of pays) place (pay_of d) ≡ pay_of pay =
+    get_or-map pay_of pays place d (pay_of d) within in
     let there : get_or values place value ≡ value = sym value_at in
     record {
       listed = listed;
       small = rw there at (has.small place value (omega (arith, same)));
       few = omega (arith, first, ap amounts listed, amounts-more before (pay_of pay), has.amounts);
       enclosed = λ b T S are. rw (mapped, there) at
-          (zip-at (λ p v. EnclosesOne b p T S v) (map pay_of pays) values place (pay_of d) value are (omega (arith, same)));
+          (zip-at
+          (λ p v. EnclosesOne b p T S v) (map pay_of pays) values place (pay_of d) value are (omega (arith, same)));
     }

@@ -57,7 +57,8 @@ values-small : (b : Basis) (T : ℕ) (S : ℕ → Bool) (pays : List PlainPay) (
 values-small b T S [] [] short are = λ k d within. absurd (omega arith)
 values-small b T S (pay ∷ pays) (value ∷ values) short are =
     let most = one-bound b pay (All-head (IsShortPay b) pay pays short) in
-    let first : IsSmall value = record { low = are.0.within.low; high = omega (arith, ints, are.0.within.high, most) } in
+    let first : IsSmall value =
+    record { low = are.0.within.low; high = omega (arith, ints, are.0.within.high, most) } in
     All-cons IsSmall value values first (values-small b T S pays values (All-tail (IsShortPay b) pay pays short) are.1)
 values-small b T S [] (value ∷ values) short are = absurd are
 values-small b T S (pay ∷ pays) [] short are = absurd are

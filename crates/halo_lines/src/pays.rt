@@ -21,7 +21,8 @@ pub const MOST_WORTH: u64 = 40_401;
 pub fn pay_lines(alloc: Global, pays: &[Pay], values: &[Ival]) -> Result<Vec<Nano>, Memory>
     requires same { length values.now ≡ length pays.now }
     requires room { HaveRoom (map pay_of pays.now) values.now }
-    ensures { IfOk result (λ lines. (b : Basis) → AreValues b 0 all_lives (map pay_of pays.now) values.now
+    ensures { IfOk result (λ lines. (b : Basis)
+        → AreValues b 0 all_lives (map pay_of pays.now) values.now
         → ArePayLines b (map pay_of pays.now) lines.items) }
 {
     let mut lines = Vec::new(alloc);

@@ -14,7 +14,8 @@ use halo_reserve::reserve;
 use std::sync::ledger::Ledger;
 
 /// The line of the reserve at a time with some lives alive: from the value then of all pays
-/// together, of a premium of 1, and from the premium, if there is one. It counts one product at most.
+/// together, of a premium of 1, and from the premium, if there is one. It counts one product at
+/// most.
 pub fn reserve_line<L: Ledger>(
     later: Ival,
     premium: Option<Ival>,

@@ -18,7 +18,12 @@ add_pay-total-requires c =
     let at = pay-at c.args.pays.now c.args.values.now c.loop-place.place c.index-pays-place.result
     c.index-values-place.result c.requires.room c.requires.same c.loop-place-test.true c.index-values-place.is in
     let can = can-add c.loop-place.total c.index-values-place.result _ _ c.loop-place.invariant.room at.small at.few in
-    record { amount_in = omega (arith, at.few); sum_in = can.sum_in; value_in = can.value_in; result_in = can.result_in }
+    record {
+      amount_in = omega (arith, at.few);
+      sum_in = can.sum_in;
+      value_in = can.value_in;
+      result_in = can.result_in;
+    }
 
 pub loop-place-preserved : goal.loop-place-preserved
 loop-place-preserved c =

@@ -18,7 +18,12 @@ add_pay-benefit-requires c =
     let amount = (get_or c.args.pays.now c.loop-place.place c.index-pays-place.result).amount in
     let nothing = nothing-total c.exact.result c.exact.ensures.lo c.exact.ensures.hi in
     let can = can-add c.exact.result c.index-values-place.result 0 amount nothing at.small (omega (arith, at.few)) in
-    record { amount_in = omega (arith, at.few); sum_in = can.sum_in; value_in = can.value_in; result_in = can.result_in }
+    record {
+      amount_in = omega (arith, at.few);
+      sum_in = can.sum_in;
+      value_in = can.value_in;
+      result_in = can.result_in;
+    }
 
 pub loop-place-preserved : goal.loop-place-preserved
 loop-place-preserved c =
@@ -29,7 +34,8 @@ loop-place-preserved c =
     let sum = c.add_pay-benefit.ensures in
     let printed = c.to_nano.ensures in
     rw (at.listed, c.in_ok-push.ensures.items) (λ b are.
-    let alone = one-benefit-more b [] pay 0 all_lives c.exact.result c.index-values-place.result c.add_pay-benefit.result
+    let alone =
+    one-benefit-more b [] pay 0 all_lives c.exact.result c.index-values-place.result c.add_pay-benefit.result
     (no-benefits b 0 all_lives c.exact.result c.exact.ensures.lo c.exact.ensures.hi)
     (at.enclosed b 0 all_lives are) sum.lo sum.hi in
     zip-push (IsPayLine b) before c.loop-place.lines.items pay c.to_nano.result (c.loop-place.invariant b are)
