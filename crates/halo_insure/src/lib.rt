@@ -12,6 +12,8 @@ pub mod laws;
 mod one_year;
 mod sets;
 mod step;
+#[cfg(test)]
+mod tests;
 mod value;
 
 pub use step::{at_horizon, year_back};
