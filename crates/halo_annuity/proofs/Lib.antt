@@ -10,7 +10,6 @@ pub mod Modest
 pub mod Passes
 pub mod TaskFacts
 pub mod Living
-pub mod Clamped
 pub mod TaskBounds
 pub mod Values
 pub mod OneSet

@@ -14,7 +14,7 @@ use Rattle.halo_life.specs.PlainGroup.{IsGroup}
 use Rattle.halo_compile.specs.ValidTask.{IsTask}
 use Rattle.halo_compile.specs.declared.task.Task.{Task}
 use Rattle.halo_annuity.specs.AtTime.{HaveSurvivorsAt, PaysAtOnce}
-use Rattle.halo_annuity.specs.OfTask.{basis_of_task, pay_of_task}
+use Rattle.halo_compile.specs.OfTask.{basis_of_task, pay_of_task}
 use Rattle.halo_annuity.proofs.Carried.{positive-both}
 use Rattle.halo_annuity.proofs.TaskFacts.{count-lives, group-lives, interest-there, no-mark, positive-ranks, survivors-there}
 

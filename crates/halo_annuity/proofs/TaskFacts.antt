@@ -34,7 +34,7 @@ use Rattle.halo_model.specs.Basis.{accumulated}
 use Rattle.halo_model.specs.Order.{declared_order}
 use Rattle.halo_compile.specs.declared.task.Task.{Task}
 use Rattle.halo_annuity.specs.AtTime.{HaveSurvivorsAt}
-use Rattle.halo_annuity.specs.OfTask.{basis_of_task}
+use Rattle.halo_compile.specs.OfTask.{basis_of_task}
 use Rattle.halo_annuity.proofs.Carried.{positive-both}
 use Rattle.halo_annuity.proofs.Counting.{never-before}
 

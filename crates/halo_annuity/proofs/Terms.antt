@@ -34,7 +34,7 @@ use Rattle.halo_compile.proofs.Times.{coefficients-by-mask, segment-in-form, seg
 use Rattle.halo_compile.specs.ValidTask.{IsTask}
 use Rattle.halo_compile.specs.declared.form.Segment.{Segment}
 use Rattle.halo_compile.specs.declared.task.Task.{Task}
-use Rattle.halo_annuity.specs.OfTask.{basis_of_task, pay_of_task}
+use Rattle.halo_compile.specs.OfTask.{basis_of_task, pay_of_task}
 use Rattle.halo_annuity.specs.RunWorth.{EnclosesRun, paid_in}
 use Rattle.halo_annuity.specs.Worth.{EnclosesSet}
 use Rattle.halo_annuity.proofs.Carried.{positive-both, positive-left, wider}

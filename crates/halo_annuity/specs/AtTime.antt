@@ -15,7 +15,8 @@ use Rattle.halo_life.specs.Lists.{Lists}
 use Rattle.halo_life.specs.PlainGroup.{survivors_in}
 use Rattle.halo_compile.specs.declared.task.Task.{Task}
 use Rattle.halo_annuity.specs.Bounds.{IsWithinCount}
-use Rattle.halo_annuity.specs.OfTask.{basis_of_task, last_of_task, pay_of_task}
+use Rattle.halo_compile.specs.OfTask.{basis_of_task, pay_of_task}
+use Rattle.halo_annuity.specs.OfTask.{last_of_task}
 use Rattle.halo_annuity.specs.Worth.{HoldValues}
 
 -- the lists hold for each set what the annuity valued at t pays, whatever the time of the task's

@@ -5,7 +5,7 @@ use Rattle.halo_num.specs.Ends.{Ends, HasWidth, IsWithin, fine}
 use Rattle.halo_model.specs.Counts.{Measures, measures_of, most_worth, width_count}
 use Rattle.halo_model.specs.Order.{Ties}
 use Rattle.halo_compile.specs.declared.task.Task.{Task}
-use Rattle.halo_annuity.specs.OfTask.{basis_of_task, pay_of_task}
+use Rattle.halo_compile.specs.OfTask.{basis_of_task, pay_of_task}
 
 -- the measures of the annuity: its horizon, the weight of its form, its greatest factor and others
 abbrev pub measures_of_task : {n m : ℕ} → Task n m → Ties → Measures

@@ -15,7 +15,7 @@ use Rattle.halo_model.specs.RunPart.{run_part}
 use Rattle.halo_model.specs.Value.{denominator}
 use Rattle.halo_compile.specs.Form.{run_of, segment_at}
 use Rattle.halo_compile.specs.declared.task.Task.{Task}
-use Rattle.halo_annuity.specs.OfTask.{basis_of_task, pay_of_task}
+use Rattle.halo_compile.specs.OfTask.{basis_of_task, pay_of_task}
 use Rattle.halo_annuity.specs.Worth.{EnclosesSet}
 
 -- the run of the times from one to another

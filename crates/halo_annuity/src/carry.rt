@@ -8,7 +8,8 @@ ghost use Rattle.halo_life.specs.Lists.{entry, nothing};
 ghost use Rattle.halo_life.specs.Total.{AreModest, is_within};
 ghost use Rattle.halo_compile.specs.ValidTask.{IsTask};
 ghost use Rattle.halo_status.specs.declared.pay.Kind.TheVariants.{Insurance};
-ghost use Rattle.halo_annuity.specs.OfTask.{basis_of_task, named_of_task, pay_of_task};
+ghost use Rattle.halo_compile.specs.OfTask.{basis_of_task, pay_of_task};
+ghost use Rattle.halo_annuity.specs.OfTask.{named_of_task};
 ghost use Rattle.halo_annuity.specs.SetSteps.{CarriesBy};
 ghost use Rattle.halo_annuity.specs.Worth.{Carries, HoldCarried, HoldValues};
 

@@ -8,7 +8,7 @@ ghost use Rattle.halo_model.specs.Order.{Ties};
 ghost use Rattle.halo_life.specs.PlainGroup.{started, surviving};
 ghost use Rattle.halo_annuity.specs.SetProduct.{product_in};
 ghost use Rattle.halo_compile.specs.ValidTask.{IsTask};
-ghost use Rattle.halo_annuity.specs.OfTask.{basis_of_task};
+ghost use Rattle.halo_compile.specs.OfTask.{basis_of_task};
 ghost use Rattle.halo_annuity.specs.RunWorth.{EnclosesDiscountedSurvival};
 
 use halo_compile::Task;

@@ -5,7 +5,8 @@ ghost use Rattle.halo_model.specs.Order.{Ties};
 ghost use Rattle.halo_life.specs.Total.{AreModest};
 ghost use Rattle.halo_compile.specs.ValidTask.{IsTask};
 ghost use Rattle.halo_annuity.specs.AtTime.{HoldAt};
-ghost use Rattle.halo_annuity.specs.OfTask.{basis_of_task, last_of_task, named_of_task, pay_of_task};
+ghost use Rattle.halo_compile.specs.OfTask.{basis_of_task, pay_of_task};
+ghost use Rattle.halo_annuity.specs.OfTask.{last_of_task, named_of_task};
 ghost use Rattle.halo_annuity.specs.Worth.{HoldCarried, HoldValues};
 
 use crate::carry::carry_back;

@@ -1,7 +1,6 @@
 // The value of an annuity of 1 at a time, by the values of all sets of lives then.
-ghost use Rattle.std.specs.Prelude.{◌≡◌, ◌≢◌, ℕ, ◌+◌, ◌*◌, ◌^◌, ◌≤◌, ◌↔◌, ◌⊎◌, IsTrue, pos, ◌≤ℤ◌};
-ghost use Rattle.halo_num.specs.Ends.{HasWidth, IsWithin, fine};
-ghost use Rattle.halo_num.specs.Enclosure.{Encloses};
+ghost use Rattle.std.specs.Prelude.{◌≡◌, ◌≢◌, ◌+◌, ◌*◌, ◌^◌, ◌≤◌, ◌↔◌, ◌⊎◌, IsTrue, pos, ◌≤ℤ◌};
+ghost use Rattle.halo_num.specs.Ends.{fine};
 ghost use Rattle.halo_status.specs.ValidPay.{HasValidVary};
 ghost use Rattle.halo_status.specs.declared.pay.Kind.TheVariants.{Insurance};
 ghost use Rattle.halo_model.specs.Counts.{greatest_factor};
@@ -9,11 +8,10 @@ ghost use Rattle.halo_compile.specs.ValidTask.{IsTask};
 ghost use Rattle.halo_annuity.specs.AtTime.{EnclosesAnnuity, HaveSurvivorsAt, HoldAt, PaysAtOnce};
 ghost use Rattle.halo_annuity.specs.Bounds.{IsWithinMost};
 
-use crate::payment::MOST_PAID;
-use halo_compile::Task;
+use halo_compile::{Task, between, greatest_factor};
 use halo_interest::LAST_TIME;
 use halo_life::Work;
-use halo_num::{Ival, ONE_IN_FINE_UNITS};
+use halo_num::Ival;
 use halo_status::{Kind, Vary, View};
 
 /// The value at time `t` of an annuity of 1 with the lives of a set alive, each of which has a row
@@ -41,28 +39,6 @@ pub fn value_at<const N: usize, const M: usize>(
     let _start = task.group.start();
     let total = work.total(alive);
     between(total, least_worth(task, t, alive), most_worth(task))
-}
-
-// The part of an enclosure from `least` ones to `most` ones, between which what it encloses lies.
-fn between(total: Ival, least: u64, most: u64) -> Ival
-    requires order { least ≤ most }
-    requires few { most ≤ 10 ^ 6 }
-    requires meets_most { total.lo ≤ℤ pos (most * fine) }
-    requires meets_least { pos (least * fine) ≤ℤ total.hi }
-    ensures encloses { (num den : ℕ) → num ≤ most * den → least * den ≤ num →
-        Encloses total (pos num) den → Encloses result (pos num) den }
-    ensures narrow { (w : ℕ) → HasWidth total w → HasWidth result w }
-    ensures within { IsWithin result (pos (least * fine)) (pos (most * fine)) }
-{
-    total.clamp(fine_units(least), fine_units(most))
-}
-
-// So many ones in fine units.
-fn fine_units(ones: u64) -> i128
-    requires { ones ≤ 10 ^ 6 }
-    ensures { result ≡ pos (ones * fine) }
-{
-    ones as i128 * ONE_IN_FINE_UNITS
 }
 
 // The least that the annuity can be worth at time `t`: 1 where it pays at once, else 0.
@@ -93,18 +69,4 @@ fn most_worth<const N: usize, const M: usize>(task: &Task<N, M>) -> u64
     ensures small { result ≤ 10 ^ 6 }
 {
     greatest_factor(task.pay.vary, task.horizon) as u64 * (task.horizon as u64 + 1)
-}
-
-// The greatest factor up to a horizon.
-fn greatest_factor(vary: Vary, horizon: u16) -> u16
-    requires vary { HasValidVary vary }
-    requires few { horizon ≤ LAST_TIME }
-    ensures value { result ≡ greatest_factor vary horizon }
-    ensures small { result ≤ MOST_PAID }
-{
-    match vary {
-        Vary::Level => 1,
-        Vary::Increasing => horizon + 1,
-        Vary::Decreasing(n) => n,
-    }
 }

@@ -7,3 +7,4 @@ pub mod Runs
 pub mod Built
 pub mod Weights
 pub mod Times
+pub mod Clamped

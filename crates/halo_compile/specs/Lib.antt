@@ -3,3 +3,4 @@ pub mod Marks
 pub mod Terms
 pub mod Weight
 pub mod ValidTask
+pub mod OfTask

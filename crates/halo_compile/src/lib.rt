@@ -6,6 +6,7 @@
 //! and the interest that it is valued with.
 #![tactic(auto)]
 
+mod bounds;
 mod existence;
 mod form;
 mod segments;
@@ -13,6 +14,7 @@ pub mod task;
 #[cfg(test)]
 mod tests;
 
+pub use bounds::{between, greatest_factor};
 pub use form::{Form, Segment};
 pub use segments::compile;
 /// There was not enough memory.

@@ -1,13 +1,10 @@
 -- An insurance of 1 is worth from nothing to its greatest factor, where somebody of each life alive survives.
-use Rattle.std.proofs.Common.{◌≡◌, ℕ, zero, suc, ◌+◌, ◌*◌, ◌-◌, ◌<◌, ◌≤◌, arith, refl, ap, sym, ◌∙◌, List, [], ◌∷◌, length, Bool, true, false, cond, pos, ◌*ℤ◌, ◌≤ℤ◌, ◌^◌, subst}
-use Rattle.std.proofs.Math.Nat.{mul-le-mul_right, mul-pos}
-use Rattle.std.proofs.lemmas.Int.{ints}
+use Rattle.std.proofs.Common.{◌≡◌, ℕ, zero, suc, ◌+◌, ◌*◌, ◌-◌, ◌<◌, ◌≤◌, arith, refl, ap, sym, ◌∙◌, List, [], ◌∷◌, length, Bool, true, false, cond, ◌^◌, subst}
+use Rattle.std.proofs.Math.Nat.{mul-pos}
 use Rattle.halo_sums.specs.Masks.{has_bit}
 use Rattle.halo_sums.specs.Sums.{numbers_from, product_over}
-use Rattle.halo_sums.proofs.Integers.{le_of_mul_pos, le_trans}
 use Rattle.halo_sums.proofs.Sums.{sum_over-const}
-use Rattle.halo_num.specs.Ends.{Ends, fine}
-use Rattle.halo_num.specs.Enclosure.{Encloses}
+use Rattle.halo_num.specs.Ends.{Ends}
 use Rattle.halo_interest.specs.Rates.{IsInterest, rate_of}
 use Rattle.halo_interest.proofs.InForce.{in_force_is}
 use Rattle.halo_status.specs.Pay.{PlainPay}
@@ -34,23 +31,11 @@ use Rattle.halo_life.specs.PlainGroup.{IsGroup, survivors_in}
 use Rattle.halo_life.specs.Total.{total_of}
 use Rattle.halo_compile.specs.ValidTask.{IsTask}
 use Rattle.halo_compile.specs.declared.task.Task.{Task}
-use Rattle.halo_insure.specs.OfTask.{HoldDuesAt, insured_basis, unit_pay}
+use Rattle.halo_compile.specs.OfTask.{pay_of_task}
+use Rattle.halo_insure.specs.OfTask.{HoldDuesAt, insured_basis}
 use Rattle.halo_insure.specs.Total.{EnclosesInsurance, HoldDues}
 use Rattle.halo_insure.proofs.Tasks.{are-lives, count-lives, end-by, same-insurance, unit-valid}
 use Rattle.halo_insure.proofs.Total.{sets-enclose-value}
-
--- a value that is at most so many ones
-pub ones-above : (num den most : ℕ) → num ≤ most * den → (pos num *ℤ pos fine) ≤ℤ (pos (most * fine) *ℤ pos den)
-ones-above num den most h = let m : num * fine ≤ most * den * fine = mul-le-mul_right fine h in omega (arith, ints, m)
-
--- its enclosure meets the bounds
-pub meets-above : (i : Ends) (num den most : ℕ)
-    → 0 < den → Encloses i (pos num) den → num ≤ most * den → i.lo ≤ℤ pos (most * fine)
-meets-above i num den most some e h = le_of_mul_pos i.lo (pos (most * fine)) den some
-    (le_trans (i.lo *ℤ pos den) (pos num *ℤ pos fine) (pos (most * fine) *ℤ pos den) e.low (ones-above num den most h))
-
-pub meets-below : (i : Ends) (num den : ℕ) → 0 < den → Encloses i (pos num) den → pos 0 ≤ℤ i.hi
-meets-below i num den some e = le_of_mul_pos (pos 0) i.hi den some (omega (arith, ints, e.high))
 
 -- there is an order of the lives
 some-orders : (ties : Ties) (n : ℕ) → 0 < length (orders_taken ties n)
@@ -110,29 +95,30 @@ module _ {n m : ℕ}
   -- the total of what is due for all sets encloses the value
   pub total-encloses : (t alive : ℕ) (lists : Lists) (i : Ends)
       → HoldDuesAt task t lists → i.lo ≡ (total_of lists m alive).lo
-      → i.hi ≡ (total_of lists m alive).hi → EnclosesInsurance (insured_basis task) (unit_pay task) t alive i
+      → i.hi ≡ (total_of lists m alive).hi → EnclosesInsurance (insured_basis task) (pay_of_task task) t alive i
   total-encloses t alive lists i held lo hi =
       let b = insured_basis task in
       let count = count-lives task group in
       let all = sets-enclose-value b (are-lives task group) (end-by task group)
-      (unit_pay task) (unit-valid task is kind) refl (rw (← is.horizon_is) is.horizon_in) t lists
-      (subst (λ (k : ℕ). HoldDues b (unit_pay task) all_events k t lists) (sym count) held) alive in
-      same-insurance b (unit_pay task) t alive i (total_of lists m alive) lo hi
-      (subst (λ (k : ℕ). EnclosesInsurance b (unit_pay task) t alive (total_of lists k alive))
+      (pay_of_task task) (unit-valid task is kind) refl (rw (← is.horizon_is) is.horizon_in) t lists
+      (subst (λ (k : ℕ). HoldDues b (pay_of_task task) all_events k t lists) (sym count) held) alive in
+      same-insurance b (pay_of_task task) t alive i (total_of lists m alive) lo hi
+      (subst (λ (k : ℕ). EnclosesInsurance b (pay_of_task task) t alive (total_of lists k alive))
       (ap (λ (k : ℕ). 2 ^ k) count ∙ sym is.sets) all)
 
   -- and the value is bounded
   pub task-bounded : (t alive most : ℕ) → most ≡ greatest_factor task.pay.now.vary task.horizon → numerator
-      (insured_basis task) (unit_pay task) t (has_bit alive) ≤ most * denominator (insured_basis task) t (has_bit alive)
+      (insured_basis task) (pay_of_task task) t (has_bit alive)
+      ≤ most * denominator (insured_basis task) t (has_bit alive)
   task-bounded t alive most e =
-      let same : greatest_factor task.pay.now.vary (horizon (insured_basis task).lives (unit_pay task).body) ≡ most =
+      let same : greatest_factor task.pay.now.vary (horizon (insured_basis task).lives (pay_of_task task).body) ≡ most =
       ap (greatest_factor task.pay.now.vary) (sym is.horizon_is) ∙ sym e in
-      subst (λ (k : ℕ). numerator (insured_basis task) (unit_pay task) t (has_bit alive)
+      subst (λ (k : ℕ). numerator (insured_basis task) (pay_of_task task) t (has_bit alive)
       ≤ k * denominator (insured_basis task) t (has_bit alive)) same
       (bounded (insured_basis task)
-      (are-lives task group) (end-by task group) (unit_pay task) (unit-valid task is kind) refl t (has_bit alive))
+      (are-lives task group) (end-by task group) (pay_of_task task) (unit-valid task is kind) refl t (has_bit alive))
 
   pub most-of-task : (most : ℕ) → most ≡ greatest_factor task.pay.now.vary task.horizon
-      → most ≡ most_worth task.pay.now.kind (measures_of (insured_basis task) (unit_pay task))
+      → most ≡ most_worth task.pay.now.kind (measures_of (insured_basis task) (pay_of_task task))
   most-of-task most e = e ∙ ap (greatest_factor task.pay.now.vary) is.horizon_is
-      ∙ sym (most-is task.pay.now.kind kind (measures_of (insured_basis task) (unit_pay task)))
+      ∙ sym (most-is task.pay.now.kind kind (measures_of (insured_basis task) (pay_of_task task)))

@@ -35,7 +35,8 @@ use Rattle.halo_compile.specs.Form.{HasTime, IsPolyOf}
 use Rattle.halo_compile.proofs.Times.{coefficients-by-mask, time-has-segment}
 use Rattle.halo_compile.specs.declared.task.Task.{Task}
 use Rattle.halo_compile.specs.ValidTask.{IsTask}
-use Rattle.halo_insure.specs.OfTask.{insured_basis, unit_pay}
+use Rattle.halo_compile.specs.OfTask.{pay_of_task}
+use Rattle.halo_insure.specs.OfTask.{insured_basis}
 
 pub few-sets : (n m : ℕ) → m ≡ 2 ^ n → n ≤ 12 → m ≤ 4096
 few-sets n m e few = let p : 2 ^ n ≤ 2 ^ 12 = pow-le-pow_right (omega arith) few in omega (arith, e, p)
@@ -51,7 +52,7 @@ module _ {n m : ℕ} (task : Task n m) (group : IsGroup n task.group.now) where
 
 -- with amount 1 it is a valid insurance as well
 pub unit-valid : {n m : ℕ} (task : Task n m)
-    → IsTask task → task.pay.now.kind ≡ Insurance → IsValidInsurance (unit_pay task)
+    → IsTask task → task.pay.now.kind ≡ Insurance → IsValidInsurance (pay_of_task task)
 unit-valid task is kind =
     let v = is.valid in
     record {
@@ -78,7 +79,7 @@ form-of-one pay t s = refl
 
 -- the coefficients of the polynomial of a time, for amount 1
 pub unit-coefficients : {n m : ℕ} (task : Task n m) (t : ℕ) (p : List ℤ) → IsPolyOf (pay_of task.pay.now) n t p
-    → (mask : ℕ) → mask < 2 ^ n → coefficient_at p mask ≡ form (unit_pay task) t (bits n mask)
+    → (mask : ℕ) → mask < 2 ^ n → coefficient_at p mask ≡ form (pay_of_task task) t (bits n mask)
 unit-coefficients {n} {m} task t p is mask below = coefficients-by-mask (pay_of task.pay.now) n t p is mask below
     ∙ form-of-one (pay_of task.pay.now) t (bits n mask)
 
@@ -145,11 +146,11 @@ products-together n m named ties sets = (
 pub next-of-form : {n m : ℕ} (task : Task n m) (k time : ℕ) (goes : Bool) (p : List ℤ) → IsPolyOf
     (pay_of task.pay.now) n time p → goes ≡ nat_lt (suc k) task.horizon → (suc k < task.horizon → time ≡ suc k)
     → (mask : ℕ) → mask < 2 ^ n → cond goes (coefficient_at p mask) (pos 0)
-    ≡ coefficient_before (unit_pay task) task.horizon (suc k) (bits n mask)
+    ≡ coefficient_before (pay_of_task task) task.horizon (suc k) (bits n mask)
 next-of-form {n} {m} task k time goes p is going next mask below = rw going (each (nat_lt (suc k) task.horizon) refl)
   where
     each : (b : Bool) → nat_lt (suc k) task.horizon ≡ b
-        → cond b (coefficient_at p mask) (pos 0) ≡ cond b (form (unit_pay task) (suc k) (bits n mask)) (pos 0)
+        → cond b (coefficient_at p mask) (pos 0) ≡ cond b (form (pay_of_task task) (suc k) (bits n mask)) (pos 0)
     each true e = let t : time ≡ suc k = next (grind (arith, nat_tests, e)) in
-        unit-coefficients task time p is mask below ∙ ap (λ (u : ℕ). form (unit_pay task) u (bits n mask)) t
+        unit-coefficients task time p is mask below ∙ ap (λ (u : ℕ). form (pay_of_task task) u (bits n mask)) t
     each false e = refl

@@ -8,7 +8,8 @@ ghost use Rattle.halo_life.specs.YearOfSets.{products_of_leavings};
 ghost use Rattle.halo_compile.specs.ValidTask.{IsTask};
 ghost use Rattle.halo_insure.specs.Dues.{ends_count};
 ghost use Rattle.halo_insure.specs.Leavings.{counts};
-ghost use Rattle.halo_insure.specs.OfTask.{HoldDuesAt, HoldDuesOn, unit_pay};
+ghost use Rattle.halo_compile.specs.OfTask.{pay_of_task};
+ghost use Rattle.halo_insure.specs.OfTask.{HoldDuesAt, HoldDuesOn};
 
 use crate::due::{YearPays, payment_in};
 use crate::failing::{can_fall_on_term, failing_lives};
@@ -68,8 +69,8 @@ fn carry_back<const N: usize, const M: usize, L: Ledger>(
     requires time { k < task.now.horizon }
     requires modest { AreModest M work.old }
     ensures values { (events : SomeEvents)
-        → ((i : ℕ) → has_bit counted i ≡ counts (unit_pay task.now) events i)
-        → ends ≡ ends_count (unit_pay task.now) events (suc k)
+        → ((i : ℕ) → has_bit counted i ≡ counts (pay_of_task task.now) events i)
+        → ends ≡ ends_count (pay_of_task task.now) events (suc k)
         → HoldDuesOn task.now events (suc k) work.old → HoldDuesOn task.now events k work.new }
     ensures cost { steps.new ≤ steps.old + products_of_leavings task.now.group.now.ties N + 5 * M }
 {

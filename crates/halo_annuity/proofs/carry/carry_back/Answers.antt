@@ -4,7 +4,8 @@ use Rattle.halo_sums.specs.Sets.{size_of}
 use Rattle.halo_sums.specs.Masks.{bits}
 use Rattle.halo_status.specs.Pay.{pay_of}
 use Rattle.halo_life.specs.Total.{is_within}
-use Rattle.halo_annuity.specs.OfTask.{basis_of_task, named_of_task, pay_of_task}
+use Rattle.halo_compile.specs.OfTask.{basis_of_task, pay_of_task}
+use Rattle.halo_annuity.specs.OfTask.{named_of_task}
 use Rattle.halo_annuity.proofs.NamedSets.{held-same, named-sets, named-size, sets-carried, year-cost}
 use Rattle.halo_annuity.proofs.TaskFacts.{few-sets, group-lives, modest-same, no-mark}
 use Rattle.halo_annuity.proofs.carry.carry_back.Goals as goal

@@ -3,7 +3,7 @@ use Rattle.halo_sums.specs.Masks.{bits}
 use Rattle.halo_sums.specs.Sets.{size_of}
 use Rattle.halo_life.specs.PlainGroup.{started, surviving}
 use Rattle.halo_annuity.specs.SetProduct.{product_in}
-use Rattle.halo_annuity.specs.OfTask.{basis_of_task}
+use Rattle.halo_compile.specs.OfTask.{basis_of_task}
 use Rattle.halo_annuity.proofs.OneSet.{one-year}
 use Rattle.halo_sums.proofs.SetMasks.{length-bits}
 use Rattle.halo_annuity.proofs.Survivors.{year-chance}

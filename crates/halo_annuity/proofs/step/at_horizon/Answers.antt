@@ -1,7 +1,7 @@
 use Rattle.std.proofs.Common.{ℕ, ◌<◌, lit<, sym, subst}
 use Rattle.halo_status.specs.Pay.{pay_of}
 use Rattle.halo_model.specs.FromTables.{lives_of}
-use Rattle.halo_annuity.specs.OfTask.{basis_of_task, pay_of_task}
+use Rattle.halo_compile.specs.OfTask.{basis_of_task, pay_of_task}
 use Rattle.halo_annuity.proofs.AtTimes.{nothing-left}
 use Rattle.halo_annuity.proofs.TaskFacts.{few-sets, some-years}
 use Rattle.halo_annuity.proofs.step.at_horizon.Goals as goal

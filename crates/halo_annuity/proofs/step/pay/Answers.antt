@@ -3,7 +3,7 @@ use Rattle.halo_sums.specs.Masks.{bits}
 use Rattle.halo_status.specs.Pay.{pay_of}
 use Rattle.halo_model.specs.Segment.{first_time}
 use Rattle.halo_compile.proofs.Times.{coefficients-by-mask, time-has-segment}
-use Rattle.halo_annuity.specs.OfTask.{basis_of_task, pay_of_task}
+use Rattle.halo_compile.specs.OfTask.{basis_of_task, pay_of_task}
 use Rattle.halo_annuity.proofs.Modest.{coefficient-sized}
 use Rattle.halo_annuity.proofs.Passes.{coefficients-of-one, none-paid, sets-paid}
 use Rattle.halo_sums.proofs.SetMasks.{length-bits}

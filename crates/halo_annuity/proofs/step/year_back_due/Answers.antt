@@ -1,6 +1,7 @@
 use Rattle.std.proofs.Common.{◌≡◌, ℕ, suc, ◌-◌, ◌^◌, ◌∙◌, arith, lit<, refl, sym, subst}
 use Rattle.halo_model.specs.Order.{declared_order}
-use Rattle.halo_annuity.specs.OfTask.{basis_of_task, last_of_task, pay_of_task}
+use Rattle.halo_compile.specs.OfTask.{basis_of_task, pay_of_task}
+use Rattle.halo_annuity.specs.OfTask.{last_of_task}
 use Rattle.halo_annuity.specs.Worth.{HoldValues}
 use Rattle.halo_annuity.proofs.AtTimes.{due-carried, due-last}
 use Rattle.halo_annuity.proofs.Modest.{carried-modest, values-modest}

@@ -1,6 +1,7 @@
 use Rattle.std.proofs.Common.{◌≡◌, ℕ, suc, ◌+◌, ◌-◌, ◌^◌, ◌∙◌, arith, lit<, refl, sym, subst}
 use Rattle.halo_model.specs.Order.{declared_order}
-use Rattle.halo_annuity.specs.OfTask.{basis_of_task, last_of_task, pay_of_task}
+use Rattle.halo_compile.specs.OfTask.{basis_of_task, pay_of_task}
+use Rattle.halo_annuity.specs.OfTask.{last_of_task}
 use Rattle.halo_annuity.specs.Worth.{HoldCarried, HoldValues}
 use Rattle.halo_annuity.proofs.AtTimes.{immediate-carried, immediate-last, none-at-once}
 use Rattle.halo_annuity.proofs.Modest.{values-modest}

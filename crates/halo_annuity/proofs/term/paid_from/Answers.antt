@@ -3,7 +3,7 @@ use Rattle.std.proofs.lemmas.Int.{ints}
 use Rattle.halo_sums.specs.Masks.{bits}
 use Rattle.halo_model.specs.Order.{declared_order}
 use Rattle.halo_model.specs.Segment.{Run}
-use Rattle.halo_annuity.specs.OfTask.{basis_of_task, pay_of_task}
+use Rattle.halo_compile.specs.OfTask.{basis_of_task, pay_of_task}
 use Rattle.halo_annuity.proofs.RunWorths.{run-carried, run-not-paid, run-paid, run-within}
 use Rattle.halo_sums.proofs.SetMasks.{length-bits}
 use Rattle.halo_annuity.proofs.Survivors.{size-within}

@@ -1,7 +1,7 @@
 use Rattle.std.proofs.Common.{◌≡◌, ℕ, suc, ◌+◌, ◌-◌, arith, lit<, subst}
 use Rattle.halo_sums.specs.Masks.{bits}
 use Rattle.halo_model.specs.Segment.{Run}
-use Rattle.halo_annuity.specs.OfTask.{basis_of_task, pay_of_task}
+use Rattle.halo_compile.specs.OfTask.{basis_of_task, pay_of_task}
 use Rattle.halo_annuity.specs.RunWorth.{EnclosesRun}
 use Rattle.halo_annuity.proofs.RunWorths.{run-last}
 use Rattle.halo_annuity.proofs.term.paid_in_run.Goals as goal

@@ -6,8 +6,8 @@ use Rattle.halo_model.specs.Counts.{measures_of, most_worth}
 use Rattle.halo_model.specs.Order.{declared_order}
 use Rattle.halo_model.specs.Value.{denominator, numerator}
 use Rattle.halo_life.specs.Total.{total_of}
-use Rattle.halo_annuity.specs.OfTask.{basis_of_task, pay_of_task}
-use Rattle.halo_annuity.proofs.Clamped.{meets-above, meets-below}
+use Rattle.halo_compile.specs.OfTask.{basis_of_task, pay_of_task}
+use Rattle.halo_compile.proofs.Clamped.{meets-above, meets-below}
 use Rattle.halo_annuity.proofs.TaskBounds.{most-of-task, some-denominator, value-above, value-below}
 use Rattle.halo_annuity.proofs.TaskFacts.{few-sets}
 use Rattle.halo_annuity.proofs.Values.{held-annuity, held-modest, same-annuity}

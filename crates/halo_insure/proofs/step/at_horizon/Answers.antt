@@ -1,6 +1,7 @@
 use Rattle.std.proofs.Common.{arith}
 use Rattle.halo_model.specs.SetValue.{all_events}
-use Rattle.halo_insure.specs.OfTask.{insured_basis, unit_pay}
+use Rattle.halo_compile.specs.OfTask.{pay_of_task}
+use Rattle.halo_insure.specs.OfTask.{insured_basis}
 use Rattle.halo_insure.proofs.Carried.{none-held}
 use Rattle.halo_insure.proofs.step.at_horizon.Goals as goal
 
@@ -9,7 +10,7 @@ returns g c = record {
   values = λ t past.
       let task = c.args.task.now in
       none-held (insured_basis task)
-      (unit_pay task) all_events g.row.N t c.loop-set.work (rw (← c.requires.task.horizon_is) past)
+      (pay_of_task task) all_events g.row.N t c.loop-set.work (rw (← c.requires.task.horizon_is) past)
       (λ mask h. c.loop-set.invariant.plus mask (omega (arith, h, c.requires.task.sets, c.loop-set-test.false)))
       (λ mask h. c.loop-set.invariant.minus mask (omega (arith, h, c.requires.task.sets, c.loop-set-test.false)));
 }

@@ -1,6 +1,7 @@
 use Rattle.std.proofs.Common.{ℕ, suc, ◌^◌, ◌<◌, arith, lit<, refl, ◌∙◌}
 use Rattle.halo_status.specs.Pay.{pay_of}
-use Rattle.halo_insure.specs.OfTask.{insured_basis, unit_pay}
+use Rattle.halo_compile.specs.OfTask.{pay_of_task}
+use Rattle.halo_insure.specs.OfTask.{insured_basis}
 use Rattle.halo_insure.proofs.Carried.{dues-carried, held-same}
 use Rattle.halo_insure.proofs.Small.{coefficient-room}
 use Rattle.halo_insure.proofs.Tasks.{are-lives, count-lives, few-sets, has-form, next-of-form, products-together, unit-coefficients}
@@ -40,11 +41,11 @@ sets_back-requires g c =
               (
                 λ mask h. rw (unit-coefficients task c.args.k c.at.result.now
                     (c.at.ensures (pay_of task.pay.now) g.row.N task.horizon is.form) mask (within mask h))
-                    (coefficient-room (unit_pay task) c.args.k g.row.N mask few),
+                    (coefficient-room (pay_of_task task) c.args.k g.row.N mask few),
                 (
                   λ mask h. rw (unit-coefficients task c.next_time.result c.at-2.result.now
                       (c.at-2.ensures (pay_of task.pay.now) g.row.N task.horizon is.form) mask (within mask h))
-                      (coefficient-room (unit_pay task) c.next_time.result g.row.N mask few),
+                      (coefficient-room (pay_of_task task) c.next_time.result g.row.N mask few),
                   (
                     λ mask h inside. (c.leavings.ensures.chances mask (within mask h) inside).within,
                     (
@@ -74,7 +75,7 @@ returns-clause-values g c = λ events counting ends held.
     let b = insured_basis task in
     let poly = c.at.ensures (pay_of task.pay.now) g.row.N task.horizon is.form in
     let later = c.at-2.ensures (pay_of task.pay.now) g.row.N task.horizon is.form in
-    dues-carried {m = g.row.M} g.row.N is.sets b (are-lives task group) (unit_pay task) refl events
+    dues-carried {m = g.row.M} g.row.N is.sets b (are-lives task group) (pay_of_task task) refl events
     (count-lives task group) c.args.k (rw (← is.horizon_is) is.horizon_in) (rw (← is.horizon_is) c.requires.time)
     _ c.year.ensures.encloses c.year.ensures.narrow c.payment_in.ensures.payment ends
     (λ mask h. unit-coefficients task c.args.k c.at.result.now poly mask h)
@@ -84,7 +85,7 @@ returns-clause-values g c = λ events counting ends held.
     c.leavings.new.into c.sets_back.new.work
     (λ mask h inside. rw c.leavings.ensures.survivals (c.survivals.ensures.chances mask h inside))
     c.leavings.ensures.chances c.sets_back.ensures.back
-    (held-same b (unit_pay task) events g.row.N
+    (held-same b (pay_of_task task) events g.row.N
     (suc c.args.k) c.args.work.now c.leavings.new.into (c.leavings.ensures.plus ∙ c.survivals.ensures.plus)
     (c.leavings.ensures.minus ∙ c.survivals.ensures.minus) held)
 

@@ -1,7 +1,8 @@
 use Rattle.std.proofs.Common.{◌≡◌, ℕ, suc, ◌+◌, arith, lit<, refl, sym, subst}
 use Rattle.halo_life.specs.Total.{AreModest}
 use Rattle.halo_model.specs.SetValue.{all_events}
-use Rattle.halo_insure.specs.OfTask.{insured_basis, unit_pay}
+use Rattle.halo_compile.specs.OfTask.{pay_of_task}
+use Rattle.halo_insure.specs.OfTask.{insured_basis}
 use Rattle.halo_insure.proofs.Small.{dues-modest}
 use Rattle.halo_insure.proofs.step.year_back.Goals as goal
 
@@ -19,7 +20,7 @@ carry_back-requires g c =
             (
               c.requires.time,
               subst (λ (m : ℕ). AreModest m c.args.work.now) (sym is.sets)
-                  (dues-modest (insured_basis task) (unit_pay task) refl is.valid.vary
+                  (dues-modest (insured_basis task) (pay_of_task task) refl is.valid.vary
                   (rw (← is.horizon_is) is.horizon_in) all_events g.row.N c.start-start.ensures.group.few
                   (suc c.args.k) c.args.work.now c.requires.values),
             ),

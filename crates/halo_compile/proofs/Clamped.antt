@@ -1,10 +1,9 @@
 -- An enclosure and the bounds of what it encloses.
-use Rattle.std.proofs.Common.{◌≡◌, ℕ, ◌*◌, ◌<◌, ◌≤◌, ℤ, pos, ◌*ℤ◌, ◌≤ℤ◌, arith}
-use Rattle.std.proofs.lemmas.Int.{ints, clamps}
-use Rattle.std.specs.Int.{int_max, int_min}
+use Rattle.std.proofs.Common.{ℕ, ◌*◌, ◌<◌, ◌≤◌, pos, ◌*ℤ◌, ◌≤ℤ◌, arith}
+use Rattle.std.proofs.lemmas.Int.{ints}
 use Rattle.std.proofs.Math.Nat.{mul-le-mul_right}
 use Rattle.halo_sums.proofs.Integers.{le_of_mul_pos, le_trans}
-use Rattle.halo_num.specs.Ends.{Ends, HasWidth, fine}
+use Rattle.halo_num.specs.Ends.{Ends, fine}
 use Rattle.halo_num.specs.Enclosure.{Encloses}
 
 -- a value that is at most so many ones, and at least so many
@@ -24,8 +23,3 @@ pub meets-below : (i : Ends) (num den least : ℕ)
     → 0 < den → Encloses i (pos num) den → least * den ≤ num → pos (least * fine) ≤ℤ i.hi
 meets-below i num den least some e h = le_of_mul_pos (pos (least * fine)) i.hi den some (le_trans
     (pos (least * fine) *ℤ pos den) (pos num *ℤ pos fine) (i.hi *ℤ pos den) (ones-below num den least h) e.high)
-
--- and is no wider within them
-pub clamped-narrow : (i r : Ends) (low high : ℤ) (w : ℕ)
-    → r.lo ≡ int_max i.lo low → r.hi ≡ int_min i.hi high → HasWidth i w → HasWidth r w
-clamped-narrow i r low high w lo hi h = record { near = omega (arith, ints, clamps, lo, hi, h.near) }

@@ -1,8 +1,8 @@
 use Rattle.std.proofs.Common.{◌≡◌, rules, arith, to_z, of_z}
 use Rattle.std.specs.Int.{w128}
 use Rattle.std.proofs.lemmas.Int.{ints, clamps, to_z-of_z}
-use Rattle.halo_annuity.proofs.Clamped.{ones-above, ones-below}
-use Rattle.halo_annuity.proofs.value.between.Goals as goal
+use Rattle.halo_compile.proofs.Clamped.{ones-above, ones-below}
+use Rattle.halo_compile.proofs.bounds.between.Goals as goal
 
 pub returns-clause-encloses : goal.returns-clause-encloses
 returns-clause-encloses c = λ num den above below e.
