@@ -15,6 +15,7 @@ use Rattle.halo_model.specs.Outcome.{joint_survivors}
 use Rattle.halo_model.specs.Basis.{Basis, accumulated}
 use Rattle.halo_model.specs.Backward.{backward}
 use Rattle.halo_annuity.specs.Worth.{Carries, EnclosesCarried, EnclosesSet, EnclosesSetWorth, paid_in_all, waited}
+use Rattle.halo_compile.proofs.Sums.{wider}
 
 -- an interval encloses its own lower end
 own : (i : Ends) → i.lo ≤ℤ i.hi → Encloses i i.lo fine
@@ -66,10 +67,6 @@ carried-encloses later chance result num (suc n) a₁ q r j then none c carries 
     let top : num * (q * suc n) ≡ q * num * suc n = omega arith in
     let bottom : suc n * a₁ * (r * j) ≡ j * (r * a₁) * suc n = omega arith in
     encloses_reduced result (pos (q * num)) (j * (r * a₁)) (suc n) (omega arith) (rw (top, bottom) at product)
-
--- a greater width will do
-pub wider : (i : Ends) (v w : ℕ) → v ≤ w → HasWidth i v → HasWidth i w
-wider i v w h p = record { near = omega (arith, ints, p.near, h) }
 
 -- a value carried back
 pub carried-worth : (later chance result : Ends) (num j₁ a₁ q r j most w v : ℕ)

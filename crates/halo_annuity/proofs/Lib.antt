@@ -2,8 +2,6 @@ pub mod Carrying
 pub mod Carried
 pub mod Counting
 pub mod Survivors
-pub mod Within
-pub mod Sums
 pub mod Totals
 pub mod OneMore
 pub mod Modest

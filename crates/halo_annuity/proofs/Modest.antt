@@ -1,18 +1,15 @@
 -- The values of all sets stay small numbers.
-use Rattle.std.proofs.Common.{◌≡◌, ℕ, zero, suc, ◌+◌, ◌*◌, ◌-◌, ◌^◌, ◌≤◌, List, length, Bool, ℤ, pos, negsuc, arith}
-use Rattle.std.proofs.Math.Nat.{mul-le-mul_right, pow-le-pow_right}
+use Rattle.std.proofs.Common.{◌≡◌, ℕ, zero, suc, ◌+◌, ◌*◌, ◌^◌, ◌≤◌, pos, arith}
+use Rattle.std.proofs.Math.Nat.{mul-le-mul_right}
 use Rattle.std.proofs.lemmas.Nat.{mul-le}
 use Rattle.std.proofs.lemmas.Int.{ints}
-use Rattle.halo_sums.specs.Sets.{in_set, size_of}
 use Rattle.halo_sums.specs.Masks.{bits}
-use Rattle.halo_sums.proofs.Bounds.{coefficients-bounded}
 use Rattle.halo_num.specs.Ends.{Ends, IsSized, IsWithin, fine}
 use Rattle.halo_status.specs.Pay.{PlainPay}
-use Rattle.halo_status.specs.View.{is_on}
 use Rattle.halo_status.specs.ValidPay.{HasValidVary}
 use Rattle.halo_status.specs.declared.pay.Vary.{Vary}
 use Rattle.halo_status.specs.declared.pay.Vary.TheVariants.{Level, Increasing, Decreasing}
-use Rattle.halo_model.specs.Coefficient.{exists_by_mark, form, view_of}
+use Rattle.halo_model.specs.Coefficient.{form}
 use Rattle.halo_model.specs.Counts.{greatest_factor}
 use Rattle.halo_model.specs.Basis.{Basis}
 use Rattle.halo_model.specs.Backward.{above_zero, below_zero, gain, loss, paid_at}
@@ -21,25 +18,7 @@ use Rattle.halo_life.specs.Total.{AreModest}
 use Rattle.halo_annuity.specs.Worth.{HoldCarried, HoldValues, paid_in_all}
 use Rattle.halo_annuity.proofs.Counting.{paid-within}
 use Rattle.halo_sums.proofs.SetMasks.{length-bits}
-use Rattle.halo_annuity.proofs.Survivors.{size-within}
-
--- the coefficient of a set of at most twelve lives
-pub coefficient-sized : (pay : PlainPay) (t : ℕ) (s : List Bool) → length s ≤ 12 → IsSized (form pay t s) (2 ^ 11)
-unfolding form
-coefficient-sized pay t s few =
-    let bound =
-    coefficients-bounded (λ u. exists_by_mark pay.mark pay.body (in_set u) (is_on (view_of pay.kind) t)) s in
-    let less : size_of s - 1 ≤ 11 = omega (arith, few, size-within s) in
-    let power : 2 ^ (size_of s - 1) ≤ 2 ^ 11 = pow-le-pow_right (omega arith) less in
-    record { low = omega (arith, ints, bound.0, power); high = omega (arith, ints, bound.1, power) }
-
-above-sized : (z : ℤ) (n : ℕ) → IsSized z n → above_zero z ≤ n
-above-sized (pos m) n h = omega (arith, ints, h.high)
-above-sized (negsuc m) n h = omega arith
-
-below-sized : (z : ℤ) (n : ℕ) → IsSized z n → below_zero z ≤ n
-below-sized (pos m) n h = omega arith
-below-sized (negsuc m) n h = omega (arith, ints, h.low)
+use Rattle.halo_compile.proofs.Coefficients.{above-sized, below-sized, coefficient-sized}
 
 pub factor-sized : (vary : Vary) → HasValidVary vary → greatest_factor vary 200 ≤ 201
 factor-sized Level h = omega arith

@@ -11,8 +11,8 @@ use Rattle.halo_model.specs.Basis.{Basis}
 use Rattle.halo_model.specs.Outcome.{joint_survivors}
 use Rattle.halo_annuity.specs.SetProduct.{product_in}
 use Rattle.halo_annuity.specs.RunWorth.{EnclosesDiscountedSurvival}
-use Rattle.halo_annuity.proofs.Carried.{wider}
-use Rattle.halo_annuity.proofs.Survivors.{size-within}
+use Rattle.halo_compile.proofs.Sums.{wider}
+use Rattle.halo_compile.proofs.Coefficients.{size-within}
 
 halved : (mask i : ℕ) → has_bit mask (suc i) ≡ has_bit (mask / 2) i
 halved mask i = ap (λ k. nat_eq (k % 2) 1) (rw (pow-succ' 2 i) (sym (div-div-eq-div-mul mask 2 (2 ^ i))))

@@ -8,24 +8,10 @@ use Rattle.halo_model.specs.Basis.{Basis}
 use Rattle.halo_model.specs.Coefficient.{form}
 use Rattle.halo_model.specs.Backward.{above_zero, below_zero, gain, loss, paid_at}
 use Rattle.halo_poly.specs.Poly.{coefficient_at}
-use Rattle.halo_model.specs.Enclosed.{of_one}
-use Rattle.halo_compile.specs.Form.{IsPolyOf}
-use Rattle.halo_compile.proofs.Times.{coefficients-by-mask}
 use Rattle.halo_life.specs.Lists.{Lists, entry, nothing}
 use Rattle.halo_annuity.specs.SetSteps.{GrowsBy}
 use Rattle.halo_annuity.specs.Worth.{EnclosesSetWorth, HoldCarried, HoldValues}
 use Rattle.halo_annuity.proofs.Carried.{paid-set}
-
--- the form of a pay does not see its amount
-pub form-of-one : (pay : PlainPay) (t : ℕ) (s : List Bool) → form pay t s ≡ form (of_one pay) t s
-unfolding form
-form-of-one pay t s = refl
-
--- the coefficients of the polynomial of a time, for amount 1
-pub coefficients-of-one : (pay : PlainPay) (n t : ℕ) (p : List ℤ)
-    → IsPolyOf pay n t p → (mask : ℕ) → mask < 2 ^ n → coefficient_at p mask ≡ form (of_one pay) t (bits n mask)
-coefficients-of-one pay n t p is mask below = coefficients-by-mask pay n t p is mask below
-    ∙ form-of-one pay t (bits n mask)
 
 -- where nothing is paid any more
 pub none-worth : (num den most w : ℕ) (i : Ends) → num ≡ 0 → i ≡ nothing → EnclosesSetWorth num den most w i

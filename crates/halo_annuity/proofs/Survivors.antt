@@ -14,11 +14,6 @@ use Rattle.halo_life.specs.PlainGroup.{PlainGroup, started, surviving, survivors
 use Rattle.halo_annuity.specs.SetProduct.{product_in}
 use Rattle.halo_annuity.proofs.Carried.{positive-left, positive-right}
 
-pub size-within : (s : List Bool) → size_of s ≤ length s
-size-within [] = omega arith
-size-within (true ∷ s) = omega (arith, size-within s)
-size-within (false ∷ s) = omega (arith, size-within s)
-
 positive-is : (n : ℕ) → 0 < n → nat_lt 0 n ≡ true
 positive-is n h = grind (arith, nat_tests)
 

@@ -16,7 +16,8 @@ use Rattle.halo_compile.specs.declared.task.Task.{Task}
 use Rattle.halo_annuity.specs.AtTime.{HaveSurvivorsAt, PaysAtOnce}
 use Rattle.halo_compile.specs.OfTask.{basis_of_task, pay_of_task}
 use Rattle.halo_annuity.proofs.Carried.{positive-both}
-use Rattle.halo_annuity.proofs.TaskFacts.{count-lives, group-lives, interest-there, no-mark, positive-ranks, survivors-there}
+use Rattle.halo_compile.proofs.Tasks.{count-lives, group-lives}
+use Rattle.halo_annuity.proofs.TaskFacts.{interest-there, no-mark, positive-ranks, survivors-there}
 
 most-is : (kind : Kind) → kind ≢ Insurance → (m : Measures) → most_worth kind m ≡ m.factor * (m.horizon + 1)
 unfolding most_worth

@@ -1,31 +1,25 @@
 -- What a valid task says of its numbers, its lives and its pay.
-use Rattle.std.proofs.Common.{◌≡◌, ◌≢◌, ℕ, zero, suc, ◌+◌, ◌-◌, ◌*◌, ◌^◌, ◌<◌, ◌≤◌, List, [], ◌∷◌, length, Bool, cond, true, false, Option, Some, None, arith, refl, ⊎_elim}
-use Rattle.std.proofs.Math.Nat.{mul-le-mul_right, pow-le-pow_right}
+use Rattle.std.proofs.Common.{◌≡◌, ◌≢◌, ℕ, ◌+◌, ◌-◌, ◌*◌, ◌<◌, ◌≤◌, List, Bool, cond, false, Option, Some, None, arith, refl, ⊎_elim}
+use Rattle.std.proofs.Math.Nat.{mul-le-mul_right}
 use Rattle.std.proofs.lemmas.Bool.{cases_lt}
 use Rattle.std.proofs.lemmas.Nat.{mul-le}
-use Rattle.std.proofs.lemmas.List.{length-map}
-use Rattle.std.proofs.lemmas.List.Elements.{All-from_get_or}
-use Rattle.halo_sums.specs.Sums.{numbers_from, product_over}
-use Rattle.halo_status.specs.Tree.{Tree, Trees, life, term, joint, last, at_least, exactly, after, none, more}
-use Rattle.halo_status.specs.Nodes.{AsksForSome, AtEachNode, AtEachNodeIn, HasPositiveRanks, nodes}
+use Rattle.halo_status.specs.Tree.{Tree, life, term, joint, last, at_least, exactly, after}
+use Rattle.halo_status.specs.Nodes.{HasPositiveRanks, nodes}
 use Rattle.halo_status.specs.Pay.{PlainPay}
-use Rattle.halo_status.specs.ValidPay.{HasRank, IsValidPay}
+use Rattle.halo_status.specs.ValidPay.{IsValidPay}
 use Rattle.halo_status.specs.declared.pay.Kind.{Kind}
 use Rattle.halo_status.specs.declared.pay.Kind.TheVariants.{Insurance, Due, Immediate}
 use Rattle.halo_status.specs.declared.pay.Mark.{Mark}
-use Rattle.halo_table.specs.DecrementTable.{TableFile, survivors_at}
-use Rattle.halo_table.specs.declared.lives.Life.{Life}
-use Rattle.halo_model.specs.Life.{AreLives, PlainLife, after_first}
+use Rattle.halo_model.specs.Life.{PlainLife}
 use Rattle.halo_model.specs.Outcome.{joint_survivors}
-use Rattle.halo_model.specs.FromTables.{HasRow, life_of, lives_of}
-use Rattle.halo_model.specs.Horizon.{horizon, life_at}
+use Rattle.halo_model.specs.FromTables.{lives_of}
+use Rattle.halo_model.specs.Horizon.{horizon}
 use Rattle.halo_model.specs.Payment.{payment}
 use Rattle.halo_model.specs.Segment.{first_time, last_time_of_form}
 use Rattle.halo_model.specs.Backward.{may_pay, paid_at, years_passed}
-use Rattle.halo_model.proofs.FromTables.{lives_of-AreLives}
 use Rattle.halo_model.proofs.HorizonIsLeast.{horizon-is-least}
 use Rattle.halo_life.specs.Lists.{Lists}
-use Rattle.halo_life.specs.PlainGroup.{IsGroup, PlainGroup}
+use Rattle.halo_life.specs.PlainGroup.{IsGroup}
 use Rattle.halo_life.specs.Total.{AreModest}
 use Rattle.halo_interest.specs.Rates.{IsInterest, rate_of}
 use Rattle.halo_interest.proofs.InForce.{in_force_is}
@@ -33,14 +27,11 @@ use Rattle.halo_sums.specs.Masks.{has_bit}
 use Rattle.halo_model.specs.Basis.{accumulated}
 use Rattle.halo_model.specs.Order.{declared_order}
 use Rattle.halo_compile.specs.declared.task.Task.{Task}
+use Rattle.halo_compile.proofs.Ranks.{ranks-ask}
+use Rattle.halo_compile.proofs.Tasks.{some-interest, some-survive}
 use Rattle.halo_annuity.specs.AtTime.{HaveSurvivorsAt}
 use Rattle.halo_compile.specs.OfTask.{basis_of_task}
-use Rattle.halo_annuity.proofs.Carried.{positive-both}
 use Rattle.halo_annuity.proofs.Counting.{never-before}
-
--- there are few sets
-pub few-sets : (n m : ℕ) → m ≡ 2 ^ n → n ≤ 12 → m ≤ 4096
-few-sets n m e few = let p : 2 ^ n ≤ 2 ^ 12 = pow-le-pow_right (omega arith) few in omega (arith, e, p)
 
 -- the horizon is at least a year, and the last time of the form within it
 pub some-years : (lives : List PlainLife) (body : Tree) → 1 ≤ horizon lives body
@@ -62,32 +53,9 @@ form-begun pay T t some = ⊎_elim
     (λ (begun : first_time pay.kind ≤ t). begun)
     (cases_lt t (first_time pay.kind))
 
--- the lives of a group keep the rule of their tables
-pub group-lives : (n : ℕ) (g : PlainGroup) → IsGroup n g → AreLives (lives_of g.file g.lives)
-group-lives n g is =
-    lives_of-AreLives g.file is.sound g.lives (All-from_get_or (λ life. HasRow g.file life.table life.age) g.lives
-    (record { table = 0; age = 0 }) (λ i h. is.rows i (omega (arith, h, is.count))))
-
-pub count-lives : (g : PlainGroup) → length (lives_of g.file g.lives) ≡ length g.lives
-count-lives g = length-map g.lives (λ life. life_of g.file life.table life.age)
-
 -- a valid pay asks for some members in each list, and is written with some node
-mutual
-  ranks-some : (s : Tree) → AtEachNode HasRank s → AtEachNode AsksForSome s
-  ranks-some (life i) h = tt
-  ranks-some (term n) h = tt
-  ranks-some (joint ms) h = (tt, ranks-some-in ms h.1)
-  ranks-some (last ms) h = (tt, ranks-some-in ms h.1)
-  ranks-some (at_least r ms) h = (h.0.0, ranks-some-in ms h.1)
-  ranks-some (exactly r ms) h = (h.0.0, ranks-some-in ms h.1)
-  ranks-some (after s t) h = (tt, ranks-some s h.1, ranks-some t h.2)
-
-  ranks-some-in : (ms : Trees) → AtEachNodeIn HasRank ms → AtEachNodeIn AsksForSome ms
-  ranks-some-in none h = tt
-  ranks-some-in (more s ms) h = (ranks-some s h.0, ranks-some-in ms h.1)
-
 pub positive-ranks : (pay : PlainPay) → IsValidPay pay → HasPositiveRanks pay.body
-positive-ranks pay valid = ranks-some pay.body valid.ranks
+positive-ranks pay valid = ranks-ask pay.body valid.ranks
 
 pub some-nodes : (s : Tree) → 1 ≤ nodes s
 some-nodes (life i) = omega arith
@@ -109,26 +77,6 @@ no-mark pay valid annual = by-mark pay.mark refl
 -- lists with the same values are as modest
 pub modest-same : (m k : ℕ) (a b : Lists) → k ≡ m → a.plus ≡ b.plus → a.minus ≡ b.minus → AreModest m b → AreModest k a
 modest-same m k a b e plus minus h mask below = rw (plus, minus) (h mask (omega (arith, e, below)))
-
--- somebody survives of lives of whom each has survivors
-pub some-survive : (file : TableFile) (T : ℕ) (U : ℕ → Bool) (lives : List Life) → ((i : ℕ)
-    → i < length lives → U i ≡ true → 0 < survivors_at file (life_at lives i).table ((life_at lives i).age + T))
-    → 0 < joint_survivors T U (lives_of file lives)
-some-survive file T U [] h = omega arith
-some-survive file T U (x ∷ lives) h = positive-both _ _ (first (U 0) (h 0 (omega arith)))
-    (some-survive file T (after_first U) lives (λ i below. h (suc i) (omega (arith, below))))
-  where
-    first : (is : Bool) → (is ≡ true → 0 < survivors_at file x.table (x.age + T))
-        → 0 < cond is (survivors_at file x.table (x.age + T)) 1
-    first true k = k refl
-    first false k = omega arith
-
--- 1 is worth something with interest
-pub some-interest : (p q : ℕ → ℕ)
-    → ((k : ℕ) → 1 ≤ q k) → (count first : ℕ) → 0 < product_over (numbers_from first count) (λ k. p k + q k)
-some-interest p q h zero first = omega arith
-some-interest p q h (suc count) first =
-    positive-both _ _ (omega (arith, h first)) (some-interest p q h count (suc first))
 
 module _ {n m : ℕ} (task : Task n m) where
   -- the living of a set have survivors together

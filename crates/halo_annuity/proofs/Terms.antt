@@ -37,12 +37,13 @@ use Rattle.halo_compile.specs.declared.task.Task.{Task}
 use Rattle.halo_compile.specs.OfTask.{basis_of_task, pay_of_task}
 use Rattle.halo_annuity.specs.RunWorth.{EnclosesRun, paid_in}
 use Rattle.halo_annuity.specs.Worth.{EnclosesSet}
-use Rattle.halo_annuity.proofs.Carried.{positive-both, positive-left, wider}
+use Rattle.halo_compile.proofs.Sums.{wider}
+use Rattle.halo_annuity.proofs.Carried.{positive-both, positive-left}
 use Rattle.halo_annuity.proofs.Living.{row-survives}
-use Rattle.halo_annuity.proofs.Modest.{coefficient-sized}
-use Rattle.halo_annuity.proofs.Passes.{form-of-one}
+use Rattle.halo_compile.proofs.Coefficients.{coefficient-sized, form-of-one}
 use Rattle.halo_annuity.proofs.RunWorths.{part-narrow, part-sized, run-sums, run-within, signed-part, times-sized}
-use Rattle.halo_annuity.proofs.TaskFacts.{count-lives, last-in, some-interest, some-nodes, some-survive, some-years}
+use Rattle.halo_compile.proofs.Tasks.{count-lives, some-interest, some-survive}
+use Rattle.halo_annuity.proofs.TaskFacts.{last-in, some-nodes, some-years}
 
 whole-is : (orders all this others interest : ℕ)
     → all ≡ this * others → orders * (all * interest) ≡ this * interest * (orders * others)

@@ -29,11 +29,11 @@ use Rattle.halo_model.proofs.Backward.{annuity-by-sets, sets-ext, survivors-spli
 use Rattle.halo_life.specs.Lists.{Lists, entry, nothing}
 use Rattle.halo_life.specs.Total.{is_within, share, total_of}
 use Rattle.halo_annuity.specs.Worth.{HoldValues, waited}
-use Rattle.halo_annuity.proofs.Carried.{positive-both, positive-left, wider}
+use Rattle.halo_annuity.proofs.Carried.{positive-both, positive-left}
 use Rattle.halo_annuity.proofs.Counting.{count-has-room, widths-together}
 use Rattle.halo_sums.proofs.SetMasks.{length-bits}
-use Rattle.halo_annuity.proofs.Sums.{sum-encloses, sum-narrow}
-use Rattle.halo_annuity.proofs.Within.{within-is}
+use Rattle.halo_compile.proofs.Sums.{sum-encloses, sum-narrow, wider}
+use Rattle.halo_compile.proofs.Within.{within-is}
 
 -- years in which nothing is paid to lives that are alive do not count
 module _ (b : Basis) (s : List Bool) (paid : ℕ → ℕ) where

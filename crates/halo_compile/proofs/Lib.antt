@@ -8,3 +8,9 @@ pub mod Built
 pub mod Weights
 pub mod Times
 pub mod Clamped
+pub mod Coefficients
+pub mod Named
+pub mod Ranks
+pub mod Sums
+pub mod Tasks
+pub mod Within

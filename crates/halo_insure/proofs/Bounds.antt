@@ -2,7 +2,7 @@
 use Rattle.std.proofs.Common.{◌≡◌, ℕ, zero, suc, ◌+◌, ◌*◌, ◌-◌, ◌<◌, ◌≤◌, arith, refl, ap, sym, ◌∙◌, List, [], ◌∷◌, length, Bool, true, false, cond, ◌^◌, subst}
 use Rattle.std.proofs.Math.Nat.{mul-pos}
 use Rattle.halo_sums.specs.Masks.{has_bit}
-use Rattle.halo_sums.specs.Sums.{numbers_from, product_over}
+use Rattle.halo_sums.specs.Sums.{numbers_from}
 use Rattle.halo_sums.proofs.Sums.{sum_over-const}
 use Rattle.halo_num.specs.Ends.{Ends}
 use Rattle.halo_interest.specs.Rates.{IsInterest, rate_of}
@@ -10,16 +10,12 @@ use Rattle.halo_interest.proofs.InForce.{in_force_is}
 use Rattle.halo_status.specs.Pay.{PlainPay}
 use Rattle.halo_status.specs.declared.pay.Kind.{Kind}
 use Rattle.halo_status.specs.declared.pay.Kind.TheVariants.{Insurance}
-use Rattle.halo_table.specs.DecrementTable.{TableFile, survivors_at}
-use Rattle.halo_table.specs.declared.lives.Life.{Life}
 use Rattle.halo_model.specs.Basis.{Basis}
 use Rattle.halo_model.specs.Chance.{IsValidInsurance}
 use Rattle.halo_model.specs.Counts.{Measures, greatest_factor, measures_of, most_worth}
-use Rattle.halo_model.specs.FromTables.{lives_of}
-use Rattle.halo_model.specs.Horizon.{horizon, life_at}
-use Rattle.halo_model.specs.Life.{AreLives, after_first}
+use Rattle.halo_model.specs.Horizon.{horizon}
+use Rattle.halo_model.specs.Life.{AreLives}
 use Rattle.halo_model.specs.Order.{Ties, all_orders, declared_order, orders, orders_taken}
-use Rattle.halo_model.specs.Outcome.{joint_survivors}
 use Rattle.halo_model.specs.PartLaws.{EndBy}
 use Rattle.halo_model.specs.Value.{denominator, numerator}
 use Rattle.halo_model.proofs.Bounded.{insurance-is-bounded}
@@ -29,12 +25,13 @@ use Rattle.halo_model.specs.SetValue.{all_events}
 use Rattle.halo_life.specs.Lists.{Lists}
 use Rattle.halo_life.specs.PlainGroup.{IsGroup, survivors_in}
 use Rattle.halo_life.specs.Total.{total_of}
+use Rattle.halo_compile.proofs.Tasks.{some-interest, some-survive}
 use Rattle.halo_compile.specs.ValidTask.{IsTask}
 use Rattle.halo_compile.specs.declared.task.Task.{Task}
 use Rattle.halo_compile.specs.OfTask.{pay_of_task}
 use Rattle.halo_insure.specs.OfTask.{HoldDuesAt, insured_basis}
 use Rattle.halo_insure.specs.Total.{EnclosesInsurance, HoldDues}
-use Rattle.halo_insure.proofs.Tasks.{are-lives, count-lives, end-by, same-insurance, unit-valid}
+use Rattle.halo_insure.proofs.Tasks.{are-lives, end-by, lives-of-task, same-insurance, unit-valid}
 use Rattle.halo_insure.proofs.Total.{sets-enclose-value}
 
 -- there is an order of the lives
@@ -44,25 +41,6 @@ some-orders all_orders n =
     let count = orders-count (numbers_from 0 n) 1 in
     let each = sum_over-const (orders (numbers_from 0 n)) 1 in
     omega (arith, count, each, factorial-some (length (numbers_from 0 n)))
-
--- somebody survives of lives of whom each has survivors
-some-survive : (file : TableFile) (T : ℕ) (U : ℕ → Bool) (lives : List Life) → ((i : ℕ)
-    → i < length lives → U i ≡ true → 0 < survivors_at file (life_at lives i).table ((life_at lives i).age + T))
-    → 0 < joint_survivors T U (lives_of file lives)
-some-survive file T U [] h = omega arith
-some-survive file T U (x ∷ lives) h = mul-pos (first (U 0) (h 0 (omega arith)))
-    (some-survive file T (after_first U) lives (λ i below. h (suc i) (omega (arith, below))))
-  where
-    first : (is : Bool) → (is ≡ true → 0 < survivors_at file x.table (x.age + T))
-        → 0 < cond is (survivors_at file x.table (x.age + T)) 1
-    first true k = k refl
-    first false k = omega arith
-
--- 1 is worth something with interest
-some-interest : (p q : ℕ → ℕ)
-    → ((k : ℕ) → 1 ≤ q k) → (count first : ℕ) → 0 < product_over (numbers_from first count) (λ k. p k + q k)
-some-interest p q h zero first = omega arith
-some-interest p q h (suc count) first = mul-pos (omega (arith, h first)) (some-interest p q h count (suc first))
 
 pub some-denominator : {n m : ℕ} (task : Task n m) → IsGroup n task.group.now → IsInterest task.interest.now
     → (t alive : ℕ) → ((i : ℕ) → i < n → has_bit alive i ≡ true → 0 < survivors_in task.group.now t i)
@@ -98,7 +76,7 @@ module _ {n m : ℕ}
       → i.hi ≡ (total_of lists m alive).hi → EnclosesInsurance (insured_basis task) (pay_of_task task) t alive i
   total-encloses t alive lists i held lo hi =
       let b = insured_basis task in
-      let count = count-lives task group in
+      let count = lives-of-task task group in
       let all = sets-enclose-value b (are-lives task group) (end-by task group)
       (pay_of_task task) (unit-valid task is kind) refl (rw (← is.horizon_is) is.horizon_in) t lists
       (subst (λ (k : ℕ). HoldDues b (pay_of_task task) all_events k t lists) (sym count) held) alive in

@@ -26,7 +26,7 @@ use Rattle.halo_poly.specs.Poly.{coefficient_at}
 use Rattle.halo_life.specs.Lists.{Lists, entry, nothing}
 use Rattle.halo_life.specs.Total.{is_within}
 use Rattle.halo_life.specs.YearOfSets.{EncloseLeavings, EncloseSurvivals, leavings_of_set}
-use Rattle.halo_insure.proofs.Within.{within-is}
+use Rattle.halo_compile.proofs.Within.{has-other, within-is}
 use Rattle.halo_insure.specs.declared.due.Due.{Due}
 use Rattle.halo_insure.specs.declared.sets.Year.{Year}
 use Rattle.halo_insure.specs.Dues.{coefficient_before, due_of, ends_count}
@@ -47,18 +47,6 @@ chance-scaled n d w k i c = record {
   narrow = c.narrow;
   within = c.within;
 }
-
--- a set that does not lie in another has a life that is not in it
-has-other : (s : List Bool) (U : ℕ → Bool) → lies_in s U ≡ false → (a : ℕ) × (in_set s a ≡ true) × (U a ≡ false)
-has-other [] U e = absurd (cc)
-has-other (false ∷ s) U e = let h = has-other s (after_first U) e in (suc h.0, h.1, h.2)
-has-other (true ∷ s) U e = by-first (U 0) refl e (λ h. has-other s (after_first U) h)
-  where
-    by-first : (is : Bool) → U 0 ≡ is → (is && lies_in s (after_first U)) ≡ false
-        → (lies_in s (after_first U) ≡ false → (a : ℕ) × (in_set s a ≡ true) × (U (suc a) ≡ false))
-        → (a : ℕ) × (in_set (true ∷ s) a ≡ true) × (U a ≡ false)
-    by-first false f g rest = (0, refl, f)
-    by-first true f g rest = let h = rest g in (suc h.0, h.1, h.2)
 
 -- where a form has no coefficient nothing is due
 module _ (part : ℤ → ℕ) (none : part (pos 0) ≡ 0)
@@ -142,7 +130,7 @@ module _ {m : ℕ} (n : ℕ) (sets : m ≡ 2 ^ n) (b : Basis)
   set-silent part none mask below outside result empty =
       let s : List Bool = bits n mask in
       let other = has-other s (has_bit named) (sym (within-is n mask named below) ∙ outside) in
-      let silent = λ (t : ℕ). silent-form pay t other.0 s other.1 (sym (names other.0) ∙ other.2) in
+      let silent = λ (t : ℕ). silent-form pay t other.life s other.of_it (sym (names other.life) ∙ other.other) in
       nothing-due b (set_leavings b pay events s) (set_survivors b s) (due_of part pay events H s) (4 * size_of s) k
       (H - k) result (silent-most part none pay events H s silent (H - k) k) (rw empty refl) (rw empty refl)
 

@@ -20,6 +20,7 @@ use Rattle.halo_model.specs.Life.{AreLives, PlainLife}
 use Rattle.halo_model.specs.Outcome.{joint_survivors}
 use Rattle.halo_model.proofs.Agreement.{agree, each-agree}
 use Rattle.halo_model.proofs.HorizonIsLeast.{horizon-is-least}
+use Rattle.halo_compile.proofs.Ranks.{ranks-ask, ranks-ask-in}
 use Rattle.halo_insure.specs.Dues.{NothingIsDueAfter}
 use Rattle.halo_insure.proofs.Silent.{silent-form}
 
@@ -50,29 +51,6 @@ gone-with-one t (x ∷ lives) (false ∷ s) zero rule len here past = absurd (cc
 gone-with-one t (x ∷ lives) (true ∷ s) zero rule len here past = rw (rule.0.ends t past) (omega arith)
 gone-with-one t (x ∷ lives) (b ∷ s) (suc a) rule len here past =
     rw (gone-with-one t lives s a rule.1 (omega (arith, len)) here past) (omega arith)
-
-rank-asks : (s : Tree) → HasRank s → AsksForSome s
-rank-asks (life i) h = tt
-rank-asks (term n) h = tt
-rank-asks (joint ms) h = tt
-rank-asks (last ms) h = tt
-rank-asks (at_least r ms) h = h.0
-rank-asks (exactly r ms) h = h.0
-rank-asks (after s t) h = tt
-
-mutual
-  ranks-ask : (s : Tree) → AtEachNode HasRank s → AtEachNode AsksForSome s
-  ranks-ask (life i) h = tt
-  ranks-ask (term n) h = tt
-  ranks-ask (joint ms) h = (tt, ranks-ask-in ms h.1)
-  ranks-ask (last ms) h = (tt, ranks-ask-in ms h.1)
-  ranks-ask (at_least r ms) h = (rank-asks (at_least r ms) h.0, ranks-ask-in ms h.1)
-  ranks-ask (exactly r ms) h = (rank-asks (exactly r ms) h.0, ranks-ask-in ms h.1)
-  ranks-ask (after s t) h = (tt, ranks-ask s h.1, ranks-ask t h.2)
-
-  ranks-ask-in : (ms : Trees) → AtEachNodeIn HasRank ms → AtEachNodeIn AsksForSome ms
-  ranks-ask-in none h = tt
-  ranks-ask-in (more s ms) h = (ranks-ask s h.0, ranks-ask-in ms h.1)
 
 -- no member exists with nobody there
 no-member : (ms : Trees) → AtEachNodeIn HasShortList ms

@@ -1,4 +1,3 @@
-pub mod Within
 pub mod Payments
 pub mod Nobody
 pub mod OneSet

@@ -7,6 +7,7 @@ use Rattle.halo_num.specs.Ends.{Ends, HasWidth, IsSized, fine}
 use Rattle.halo_num.specs.Enclosure.{Encloses}
 use Rattle.halo_num.proofs.Enclosures.{encloses_at, encloses_reduced}
 use Rattle.halo_sums.proofs.Integers.{mul_le_pos}
+use Rattle.halo_compile.proofs.Sums.{wider}
 
 -- a multiple of what is not above one
 pub multiple-bound : (r a : Ends) (count : ℕ) → r.hi ≡ int_max (a.lo *ℤ pos count) (a.hi *ℤ pos count)
@@ -71,9 +72,6 @@ back-narrow due b w d some = omega (arith, some)
 -- nothing due and nothing carried is exactly nothing
 nothing-narrow : (r : Ends) (w : ℕ) → pos 0 ≤ℤ r.lo → r.hi ≤ℤ pos (0 * fine) → HasWidth r w
 nothing-narrow r w from bound = record { near = omega (arith, ints, from, bound) }
-
-wider : (r : Ends) (v w : ℕ) → v ≤ w → HasWidth r v → HasWidth r w
-wider r v w h p = record { near = let k = p.near in omega (arith, ints) }
 
 pub year-narrow : (r : Ends) (due b w d : ℕ) → pos 0 ≤ℤ r.lo → r.hi ≤ℤ pos ((due + b) * fine)
     → HasWidth r ((due * d + (w * 1 + d * b + 1)) * 1 + 1 * (due + b) + 1) → HasWidth r (w + (d + 3) * (due + b))

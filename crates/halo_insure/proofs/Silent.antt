@@ -15,6 +15,7 @@ use Rattle.halo_model.specs.Coefficient.{existence, exists_by_mark, form, waits_
 use Rattle.halo_model.specs.Payment.{members_of}
 use Rattle.halo_model.specs.Counts.{lives_named}
 use Rattle.halo_model.proofs.Agreement.{agree, each-agree}
+use Rattle.halo_compile.proofs.Named.{count-next, count_named}
 
 difference-none : (y z : ℤ) → y ≡ z → y -ℤ z ≡ pos 0
 difference-none y z e = rw e (omega (arith, ints))
@@ -65,14 +66,6 @@ silent-form pay t a s e silent =
 
 abbrev one_if : Bool → ℕ
 one_if b = cond b 1 0
-
--- how many of the next lives a name holds of
-abbrev count_named : (ℕ → Bool) → ℕ → ℕ
-count_named name n = sum_over (numbers_from 0 n) (λ i. cond (name i) 1 0)
-
-count-next : (name : ℕ → Bool) (n : ℕ)
-    → count_named name (suc n) ≡ cond (name 0) 1 0 + count_named (λ i. name (suc i)) n
-count-next name n = ap (λ m. cond (name 0) 1 0 + m) (sum_over-numbers_next n 0 (λ i. cond (name i) 1 0))
 
 -- a set has at most as many lives as are named, or it has one that is not
 named-or-not : (name : ℕ → Bool) (s : List Bool)

@@ -1,53 +1,28 @@
 -- The values of all sets stay small numbers.
 use Rattle.std.proofs.Common.{◌≡◌, ℕ, zero, suc, ◌+◌, ◌*◌, ◌-◌, ◌^◌, ◌<◌, ◌≤◌, arith, List, [], ◌∷◌, length, Bool, true, false, cond, ◌&&◌, nat_le, nat_lt, ℤ, pos, negsuc, ◌-ℤ◌, ◌≤ℤ◌, ⊎_elim}
-use Rattle.std.proofs.Math.Nat.{mul-le-mul_right, pow-le-pow_right}
+use Rattle.std.proofs.Math.Nat.{mul-le-mul_right}
 use Rattle.std.proofs.lemmas.Bool.{cases_lt}
 use Rattle.std.proofs.lemmas.Int.{ints}
 use Rattle.std.proofs.lemmas.Nat.{mul-le}
 use Rattle.halo_sums.specs.Masks.{bits}
-use Rattle.halo_sums.specs.Sets.{in_set, size_of}
-use Rattle.halo_sums.proofs.Bounds.{coefficients-bounded}
 use Rattle.halo_sums.proofs.SetMasks.{length-bits}
 use Rattle.halo_num.specs.Ends.{Ends, IsSized, IsWithin, fine}
 use Rattle.halo_status.specs.Pay.{PlainPay}
 use Rattle.halo_status.specs.ValidPay.{HasValidVary}
-use Rattle.halo_status.specs.View.{is_on}
 use Rattle.halo_status.specs.declared.pay.Vary.{Vary}
 use Rattle.halo_status.specs.declared.pay.Vary.TheVariants.{Level, Increasing, Decreasing}
 use Rattle.halo_model.specs.Backward.{above_zero, below_zero}
 use Rattle.halo_model.specs.Basis.{Basis}
-use Rattle.halo_model.specs.Coefficient.{exists_by_mark, form, view_of}
+use Rattle.halo_model.specs.Coefficient.{form}
 use Rattle.halo_model.specs.Horizon.{horizon}
 use Rattle.halo_model.specs.Payment.{factor, payment}
 use Rattle.halo_model.specs.SetValue.{SomeEvents}
 use Rattle.halo_life.specs.Lists.{Lists}
 use Rattle.halo_life.specs.Total.{AreModest}
+use Rattle.halo_compile.proofs.Coefficients.{above-sized, below-sized, coefficient-sized}
 use Rattle.halo_insure.specs.Dues.{coefficient_before, due_of, ends_count}
 use Rattle.halo_insure.specs.OneSet.{most_due}
 use Rattle.halo_insure.specs.Total.{HoldDues}
-
-size-within : (s : List Bool) → size_of s ≤ length s
-size-within [] = omega arith
-size-within (true ∷ s) = omega (arith, size-within s)
-size-within (false ∷ s) = omega (arith, size-within s)
-
--- the coefficient of a set of at most twelve lives
-pub coefficient-sized : (pay : PlainPay) (t : ℕ) (s : List Bool) → length s ≤ 12 → IsSized (form pay t s) (2 ^ 11)
-unfolding form
-coefficient-sized pay t s few =
-    let bound =
-    coefficients-bounded (λ u. exists_by_mark pay.mark pay.body (in_set u) (is_on (view_of pay.kind) t)) s in
-    let less : size_of s - 1 ≤ 11 = omega (arith, few, size-within s) in
-    let power : 2 ^ (size_of s - 1) ≤ 2 ^ 11 = pow-le-pow_right (omega arith) less in
-    record { low = omega (arith, ints, bound.0, power); high = omega (arith, ints, bound.1, power) }
-
-pub above-sized : (z : ℤ) (n : ℕ) → IsSized z n → above_zero z ≤ n
-above-sized (pos m) n h = omega (arith, ints, h.high)
-above-sized (negsuc m) n h = omega arith
-
-pub below-sized : (z : ℤ) (n : ℕ) → IsSized z n → below_zero z ≤ n
-below-sized (pos m) n h = omega arith
-below-sized (negsuc m) n h = omega (arith, ints, h.low)
 
 factor-small : (vary : Vary) (passed : ℕ) → HasValidVary vary → passed ≤ 200 → factor vary passed ≤ 201
 factor-small Level passed h few = omega arith

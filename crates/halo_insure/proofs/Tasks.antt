@@ -2,8 +2,7 @@
 use Rattle.std.proofs.Common.{◌≡◌, ℕ, zero, suc, ◌+◌, ◌-◌, ◌^◌, ◌<◌, ◌≤◌, arith, refl, ap, ◌∙◌, List, [], ◌∷◌, length, get_or, Bool, true, false, cond, nat_lt, ℤ, pos, ⊎_elim}
 use Rattle.std.proofs.Math.Nat.{pow-le-pow_right}
 use Rattle.std.proofs.lemmas.Nat.{mul-le}
-use Rattle.std.proofs.lemmas.List.{length-map}
-use Rattle.std.proofs.lemmas.List.Elements.{All-from_get_or, All-get_or}
+use Rattle.std.proofs.lemmas.List.Elements.{All-get_or}
 use Rattle.halo_sums.specs.Masks.{bits}
 use Rattle.halo_sums.specs.Sets.{size_of}
 use Rattle.halo_sums.proofs.SetMasks.{length-bits}
@@ -23,32 +22,27 @@ use Rattle.halo_status.specs.Pay.{PlainPay, pay_of}
 use Rattle.halo_status.specs.declared.pay.Kind.TheVariants.{Insurance}
 use Rattle.halo_model.specs.Chance.{IsValidInsurance}
 use Rattle.halo_model.specs.Coefficient.{form}
-use Rattle.halo_model.specs.Enclosed.{of_one}
 use Rattle.halo_model.specs.Order.{Ties, all_orders, declared_order}
 use Rattle.halo_poly.specs.Poly.{coefficient_at}
-use Rattle.halo_model.specs.FromTables.{HasRow, life_of, lives_of}
+use Rattle.halo_model.specs.FromTables.{lives_of}
 use Rattle.halo_model.specs.Life.{AreLives}
-use Rattle.halo_model.proofs.FromTables.{lives_of-AreLives}
 use Rattle.halo_life.specs.PlainGroup.{IsGroup}
 use Rattle.halo_life.specs.YearOfSets.{products_of_leavings}
 use Rattle.halo_compile.specs.Form.{HasTime, IsPolyOf}
-use Rattle.halo_compile.proofs.Times.{coefficients-by-mask, time-has-segment}
+use Rattle.halo_compile.proofs.Coefficients.{coefficients-of-one, size-within}
+use Rattle.halo_compile.proofs.Tasks.{count-lives, group-lives}
+use Rattle.halo_compile.proofs.Times.{time-has-segment}
 use Rattle.halo_compile.specs.declared.task.Task.{Task}
 use Rattle.halo_compile.specs.ValidTask.{IsTask}
 use Rattle.halo_compile.specs.OfTask.{pay_of_task}
 use Rattle.halo_insure.specs.OfTask.{insured_basis}
 
-pub few-sets : (n m : ℕ) → m ≡ 2 ^ n → n ≤ 12 → m ≤ 4096
-few-sets n m e few = let p : 2 ^ n ≤ 2 ^ 12 = pow-le-pow_right (omega arith) few in omega (arith, e, p)
-
 module _ {n m : ℕ} (task : Task n m) (group : IsGroup n task.group.now) where
-  pub count-lives : length (insured_basis task).lives ≡ n
-  count-lives = length-map task.group.now.lives (λ life. life_of task.group.now.file life.table life.age) ∙ group.count
+  pub lives-of-task : length (insured_basis task).lives ≡ n
+  lives-of-task = count-lives task.group.now ∙ group.count
 
   pub are-lives : AreLives (insured_basis task).lives
-  are-lives = lives_of-AreLives task.group.now.file group.sound task.group.now.lives
-      (All-from_get_or (λ life. HasRow task.group.now.file life.table life.age) task.group.now.lives
-      (record { table = 0; age = 0 }) (λ i h. group.rows i (omega (arith, h, group.count))))
+  are-lives = group-lives n task.group.now group
 
 -- with amount 1 it is a valid insurance as well
 pub unit-valid : {n m : ℕ} (task : Task n m)
@@ -72,17 +66,6 @@ unit-valid task is kind =
       kind = kind;
     }
 
--- the form of a pay does not see its amount
-form-of-one : (pay : PlainPay) (t : ℕ) (s : List Bool) → form pay t s ≡ form (of_one pay) t s
-unfolding form
-form-of-one pay t s = refl
-
--- the coefficients of the polynomial of a time, for amount 1
-pub unit-coefficients : {n m : ℕ} (task : Task n m) (t : ℕ) (p : List ℤ) → IsPolyOf (pay_of task.pay.now) n t p
-    → (mask : ℕ) → mask < 2 ^ n → coefficient_at p mask ≡ form (pay_of_task task) t (bits n mask)
-unit-coefficients {n} {m} task t p is mask below = coefficients-by-mask (pay_of task.pay.now) n t p is mask below
-    ∙ form-of-one (pay_of task.pay.now) t (bits n mask)
-
 -- an insurance has a form at each time before its horizon
 pub has-form : {n m : ℕ} (task : Task n m) → IsTask task
     → task.pay.now.kind ≡ Insurance → (t : ℕ) → t < task.horizon → (place : ℕ) × HasTime task.form.now t place
@@ -90,11 +73,6 @@ has-form {n} {m} task is kind t before = time-has-segment (pay_of task.pay.now) 
     (rw kind (omega arith)) (rw kind (omega (arith, before)))
 
 -- fewer lives make fewer products
-size-within : (s : List Bool) → size_of s ≤ length s
-size-within [] = omega arith
-size-within (true ∷ s) = omega (arith, size-within s)
-size-within (false ∷ s) = omega (arith, size-within s)
-
 pub named-few : (n named : ℕ) → size_of (bits n named) ≤ n
 named-few n named = omega (arith, size-within (bits n named), length-bits n named)
 
@@ -152,5 +130,6 @@ next-of-form {n} {m} task k time goes p is going next mask below = rw going (eac
     each : (b : Bool) → nat_lt (suc k) task.horizon ≡ b
         → cond b (coefficient_at p mask) (pos 0) ≡ cond b (form (pay_of_task task) (suc k) (bits n mask)) (pos 0)
     each true e = let t : time ≡ suc k = next (grind (arith, nat_tests, e)) in
-        unit-coefficients task time p is mask below ∙ ap (λ (u : ℕ). form (pay_of_task task) u (bits n mask)) t
+        coefficients-of-one (pay_of task.pay.now) n time p is mask below
+        ∙ ap (λ (u : ℕ). form (pay_of_task task) u (bits n mask)) t
     each false e = refl

@@ -26,7 +26,8 @@ use Rattle.halo_model.proofs.Backward.{survivors-split}
 use Rattle.halo_model.proofs.InsuranceBySets.{insurance-by-sets}
 use Rattle.halo_life.specs.Lists.{Lists, entry, nothing}
 use Rattle.halo_life.specs.Total.{is_within, share, total_of}
-use Rattle.halo_insure.proofs.Within.{within-is}
+use Rattle.halo_compile.proofs.Sums.{sum-encloses, sum-narrow}
+use Rattle.halo_compile.proofs.Within.{within-is}
 use Rattle.halo_insure.specs.Dues.{due_by_both, due_of, set_worth}
 use Rattle.halo_insure.specs.OneSet.{most_due}
 use Rattle.halo_insure.specs.Total.{HoldDues, SetsEncloseValue}
@@ -80,31 +81,6 @@ subsets-as-sets (false ∷ u) f = int_sum_over-sets (length u) (λ s. cond (lies
   where
     alone : (z : ℤ) → z +ℤ pos 0 ≡ z
     alone z = omega (arith, ints)
-
--- sums of enclosures over masks
-abbrev sum_of : (ℕ → Ends) → ℕ → ℕ → Ends
-sum_of shares first count = record {
-  lo = int_sum_over (numbers_from first count) (λ mask. (shares mask).lo);
-  hi = int_sum_over (numbers_from first count) (λ mask. (shares mask).hi);
-}
-
-sum-encloses : (shares : ℕ → Ends) (parts : ℕ → ℤ) (d count first : ℕ)
-    → ((mask : ℕ) → mask < first + count → Encloses (shares mask) (parts mask) d)
-    → Encloses (sum_of shares first count) (int_sum_over (numbers_from first count) parts) d
-sum-encloses shares parts d zero first each = record { low = omega (arith, ints); high = omega (arith, ints) }
-sum-encloses shares parts d (suc count) first each =
-    encloses_add (shares first) (sum_of shares (suc first) count) (sum_of shares first (suc count))
-    (parts first) (int_sum_over (numbers_from (suc first) count) parts) d refl refl
-    (each first (omega arith)) (sum-encloses shares parts d count (suc first) (λ mask below. each mask (omega arith)))
-
-sum-narrow : (shares : ℕ → Ends) (widths : ℕ → ℕ) (count first : ℕ)
-    → ((mask : ℕ) → mask < first + count → HasWidth (shares mask) (widths mask))
-    → HasWidth (sum_of shares first count) (sum_over (numbers_from first count) widths)
-sum-narrow shares widths zero first each = record { near = omega (arith, ints) }
-sum-narrow shares widths (suc count) first each =
-    let here = each first (omega arith) in
-    let rest = sum-narrow shares widths count (suc first) (λ mask below. each mask (omega arith)) in
-    record { near = omega (arith, ints, here.near, rest.near) }
 
 module _ (b : Basis) (rule : AreLives b.lives)
     (pay : PlainPay) (is : IsValidInsurance pay) (in_time : horizon b.lives pay.body ≤ b.last_time)

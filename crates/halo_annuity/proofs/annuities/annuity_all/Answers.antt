@@ -1,7 +1,8 @@
 use Rattle.std.proofs.Common.{◌≡◌, ℕ, suc, ◌+◌, ◌-◌, ◌^◌, ◌≤◌, arith, lit<, subst}
 use Rattle.halo_annuity.specs.AtTime.{HoldAt}
 use Rattle.halo_annuity.specs.OfTask.{named_of_task}
-use Rattle.halo_annuity.proofs.TaskFacts.{few-sets, pass-cost}
+use Rattle.halo_compile.proofs.Tasks.{few-sets}
+use Rattle.halo_annuity.proofs.TaskFacts.{pass-cost}
 use Rattle.halo_annuity.proofs.Values.{held-annuity, held-modest}
 use Rattle.halo_annuity.proofs.annuities.annuity_all.Goals as goal
 

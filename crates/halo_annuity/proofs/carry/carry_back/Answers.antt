@@ -7,7 +7,8 @@ use Rattle.halo_life.specs.Total.{is_within}
 use Rattle.halo_compile.specs.OfTask.{basis_of_task, pay_of_task}
 use Rattle.halo_annuity.specs.OfTask.{named_of_task}
 use Rattle.halo_annuity.proofs.NamedSets.{held-same, named-sets, named-size, sets-carried, year-cost}
-use Rattle.halo_annuity.proofs.TaskFacts.{few-sets, group-lives, modest-same, no-mark}
+use Rattle.halo_compile.proofs.Tasks.{few-sets, group-lives}
+use Rattle.halo_annuity.proofs.TaskFacts.{modest-same, no-mark}
 use Rattle.halo_annuity.proofs.carry.carry_back.Goals as goal
 
 pub carry_sets-requires : goal.carry_sets-requires

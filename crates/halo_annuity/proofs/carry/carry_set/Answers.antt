@@ -1,12 +1,13 @@
 use Rattle.std.proofs.Common.{arith, sym, ◌∙◌}
 use Rattle.std.proofs.lemmas.Int.{ints}
 use Rattle.halo_life.specs.Total.{is_within}
-use Rattle.halo_annuity.proofs.NamedSets.{set-cost, within-by-bits}
+use Rattle.halo_life.proofs.Within.{is-within}
+use Rattle.halo_annuity.proofs.NamedSets.{set-cost}
 use Rattle.halo_annuity.proofs.carry.carry_set.Goals as goal
 
 pub mul-chance-requires-clause-o_in : goal.mul-chance-requires-clause-o_in
 mul-chance-requires-clause-o_in g c =
-    let within = within-by-bits c.args.set c.args.named c.if-set-named.false in
+    let within = is-within c.args.set c.args.named c.if-set-named.false in
     rw c.at.ensures (omega (arith, ints, (c.requires.survival within).high))
 
 pub carried-plus-requires-clause-room : goal.carried-plus-requires-clause-room
@@ -31,22 +32,22 @@ returns-clause-minus g c = λ within. record {
 
 pub returns-clause-none : goal.returns-clause-none
 returns-clause-none g c = λ outside.
-    let within = within-by-bits c.args.set c.args.named c.if-set-named.false in
+    let within = is-within c.args.set c.args.named c.if-set-named.false in
     absurd (cc (sym within ∙ outside))
 
 pub returns-clause-cost : goal.returns-clause-cost
 returns-clause-cost g c =
-    let within = within-by-bits c.args.set c.args.named c.if-set-named.false in
+    let within = is-within c.args.set c.args.named c.if-set-named.false in
     set-cost c.args.steps.now c.mul-chance.new.steps c.carried-plus.new.steps c.carried-minus.new.steps
     (is_within c.args.set c.args.named) within
     (omega (arith, c.mul-chance.ensures.cost)) c.carried-plus.ensures.cost c.carried-minus.ensures.cost
 
 pub carried-plus-requires-clause-chance : goal.carried-plus-requires-clause-chance
 carried-plus-requires-clause-chance g c =
-    let within = within-by-bits c.args.set c.args.named c.if-set-named.false in
+    let within = is-within c.args.set c.args.named c.if-set-named.false in
     c.mul-chance.ensures.within c.requires.discount.high (rw c.at.ensures (c.requires.survival within).high)
 
 pub carried-minus-requires-clause-chance : goal.carried-minus-requires-clause-chance
 carried-minus-requires-clause-chance g c =
-    let within = within-by-bits c.args.set c.args.named c.if-set-named.false in
+    let within = is-within c.args.set c.args.named c.if-set-named.false in
     c.mul-chance.ensures.within c.requires.discount.high (rw c.at.ensures (c.requires.survival within).high)

@@ -3,7 +3,8 @@ use Rattle.halo_sums.specs.Sums.{numbers_from, sum_over}
 use Rattle.halo_life.specs.Lists.{entry, nothing}
 use Rattle.halo_life.specs.Total.{is_within}
 use Rattle.halo_annuity.specs.SetSteps.{CarriesBy}
-use Rattle.halo_annuity.proofs.NamedSets.{count-next, one-cost}
+use Rattle.halo_life.proofs.Sums.{sum_over-numbers_push}
+use Rattle.halo_annuity.proofs.NamedSets.{one-cost}
 use Rattle.halo_annuity.proofs.OneMore.{one-more}
 use Rattle.halo_annuity.proofs.carry.carry_sets.Goals as goal
 
@@ -35,5 +36,5 @@ loop-set-preserved g c =
       cost = one-cost c.args.steps.now c.loop-set.steps c.carry_set.new.steps 3
           (sum_over (numbers_from 0 n) (λ mask. cond (is_within mask c.args.named) 1 0))
           (cond (is_within n c.args.named) 1 0) _
-          i.cost step.cost (count-next (λ mask. cond (is_within mask c.args.named) 1 0) n);
+          i.cost step.cost (sum_over-numbers_push n (λ mask. cond (is_within mask c.args.named) 1 0));
     }

@@ -3,7 +3,8 @@ use Rattle.halo_status.specs.Pay.{pay_of}
 use Rattle.halo_model.specs.FromTables.{lives_of}
 use Rattle.halo_compile.specs.OfTask.{basis_of_task, pay_of_task}
 use Rattle.halo_annuity.proofs.AtTimes.{nothing-left}
-use Rattle.halo_annuity.proofs.TaskFacts.{few-sets, some-years}
+use Rattle.halo_compile.proofs.Tasks.{few-sets}
+use Rattle.halo_annuity.proofs.TaskFacts.{some-years}
 use Rattle.halo_annuity.proofs.step.at_horizon.Goals as goal
 
 pub clear-requires : goal.clear-requires

@@ -4,10 +4,11 @@ use Rattle.halo_status.specs.Pay.{pay_of}
 use Rattle.halo_model.specs.Segment.{first_time}
 use Rattle.halo_compile.proofs.Times.{coefficients-by-mask, time-has-segment}
 use Rattle.halo_compile.specs.OfTask.{basis_of_task, pay_of_task}
-use Rattle.halo_annuity.proofs.Modest.{coefficient-sized}
-use Rattle.halo_annuity.proofs.Passes.{coefficients-of-one, none-paid, sets-paid}
+use Rattle.halo_compile.proofs.Coefficients.{coefficient-sized, coefficients-of-one}
+use Rattle.halo_annuity.proofs.Passes.{none-paid, sets-paid}
 use Rattle.halo_sums.proofs.SetMasks.{length-bits}
-use Rattle.halo_annuity.proofs.TaskFacts.{few-sets, form-begun}
+use Rattle.halo_compile.proofs.Tasks.{few-sets}
+use Rattle.halo_annuity.proofs.TaskFacts.{form-begun}
 use Rattle.halo_annuity.proofs.step.pay.Goals as goal
 
 pub returns-then-paid-eq0 : goal.returns-then-paid-eq0

@@ -6,8 +6,9 @@ use Rattle.halo_model.specs.Segment.{Run}
 use Rattle.halo_compile.specs.OfTask.{basis_of_task, pay_of_task}
 use Rattle.halo_annuity.proofs.RunWorths.{run-carried, run-not-paid, run-paid, run-within}
 use Rattle.halo_sums.proofs.SetMasks.{length-bits}
-use Rattle.halo_annuity.proofs.Survivors.{size-within}
-use Rattle.halo_annuity.proofs.TaskFacts.{group-lives, last-in}
+use Rattle.halo_compile.proofs.Coefficients.{size-within}
+use Rattle.halo_compile.proofs.Tasks.{group-lives}
+use Rattle.halo_annuity.proofs.TaskFacts.{last-in}
 use Rattle.halo_annuity.proofs.term.paid_from.Goals as goal
 
 pub carried-value-requires-clause-from : goal.carried-value-requires-clause-from

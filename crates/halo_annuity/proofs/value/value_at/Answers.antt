@@ -9,7 +9,7 @@ use Rattle.halo_life.specs.Total.{total_of}
 use Rattle.halo_compile.specs.OfTask.{basis_of_task, pay_of_task}
 use Rattle.halo_compile.proofs.Clamped.{meets-above, meets-below}
 use Rattle.halo_annuity.proofs.TaskBounds.{most-of-task, some-denominator, value-above, value-below}
-use Rattle.halo_annuity.proofs.TaskFacts.{few-sets}
+use Rattle.halo_compile.proofs.Tasks.{few-sets}
 use Rattle.halo_annuity.proofs.Values.{held-annuity, held-modest, same-annuity}
 use Rattle.halo_annuity.proofs.value.value_at.Goals as goal
 

@@ -4,7 +4,9 @@ use Rattle.halo_compile.specs.OfTask.{pay_of_task}
 use Rattle.halo_insure.specs.OfTask.{insured_basis}
 use Rattle.halo_insure.proofs.Carried.{dues-carried, held-same}
 use Rattle.halo_insure.proofs.Small.{coefficient-room}
-use Rattle.halo_insure.proofs.Tasks.{are-lives, count-lives, few-sets, has-form, next-of-form, products-together, unit-coefficients}
+use Rattle.halo_compile.proofs.Coefficients.{coefficients-of-one}
+use Rattle.halo_compile.proofs.Tasks.{few-sets}
+use Rattle.halo_insure.proofs.Tasks.{are-lives, has-form, lives-of-task, next-of-form, products-together}
 use Rattle.halo_insure.proofs.step.carry_back.Goals as goal
 
 pub survivals-requires : goal.survivals-requires
@@ -39,11 +41,11 @@ sets_back-requires g c =
             (
               c.payment_in.ensures.small,
               (
-                λ mask h. rw (unit-coefficients task c.args.k c.at.result.now
+                λ mask h. rw (coefficients-of-one (pay_of task.pay.now) g.row.N c.args.k c.at.result.now
                     (c.at.ensures (pay_of task.pay.now) g.row.N task.horizon is.form) mask (within mask h))
                     (coefficient-room (pay_of_task task) c.args.k g.row.N mask few),
                 (
-                  λ mask h. rw (unit-coefficients task c.next_time.result c.at-2.result.now
+                  λ mask h. rw (coefficients-of-one (pay_of task.pay.now) g.row.N c.next_time.result c.at-2.result.now
                       (c.at-2.ensures (pay_of task.pay.now) g.row.N task.horizon is.form) mask (within mask h))
                       (coefficient-room (pay_of_task task) c.next_time.result g.row.N mask few),
                   (
@@ -76,9 +78,9 @@ returns-clause-values g c = λ events counting ends held.
     let poly = c.at.ensures (pay_of task.pay.now) g.row.N task.horizon is.form in
     let later = c.at-2.ensures (pay_of task.pay.now) g.row.N task.horizon is.form in
     dues-carried {m = g.row.M} g.row.N is.sets b (are-lives task group) (pay_of_task task) refl events
-    (count-lives task group) c.args.k (rw (← is.horizon_is) is.horizon_in) (rw (← is.horizon_is) c.requires.time)
+    (lives-of-task task group) c.args.k (rw (← is.horizon_is) is.horizon_in) (rw (← is.horizon_is) c.requires.time)
     _ c.year.ensures.encloses c.year.ensures.narrow c.payment_in.ensures.payment ends
-    (λ mask h. unit-coefficients task c.args.k c.at.result.now poly mask h)
+    (λ mask h. coefficients-of-one (pay_of task.pay.now) g.row.N c.args.k c.at.result.now poly mask h)
     (λ mask h. rw (← is.horizon_is) (next-of-form task c.args.k
     c.next_time.result c.goes_on.result c.at-2.result.now later c.goes_on.ensures c.next_time.ensures.next mask h))
     c.lives-named.result c.args.counted c.lives-named.ensures counting

@@ -8,7 +8,7 @@ use Rattle.halo_insure.specs.OfTask.{insured_basis}
 use Rattle.halo_compile.proofs.Clamped.{meets-above, meets-below}
 use Rattle.halo_insure.proofs.Bounds.{most-of-task, some-denominator, task-bounded, total-encloses}
 use Rattle.halo_insure.proofs.Small.{dues-modest}
-use Rattle.halo_insure.proofs.Tasks.{few-sets}
+use Rattle.halo_compile.proofs.Tasks.{few-sets}
 use Rattle.halo_insure.proofs.value.value_at.Goals as goal
 
 pub total-total-requires : goal.total-total-requires

@@ -1,4 +1,4 @@
--- A mask within a mask is a set within a set.
+-- A mask within a mask is a set within a set, and a set that is not has another life.
 use Rattle.std.proofs.Common.{◌≡◌, ℕ, zero, suc, ◌^◌, ◌<◌, List, [], ◌∷◌, Bool, true, false, ◌&&◌, sym, refl, ◌∙◌}
 use Rattle.halo_sums.specs.Masks.{bits, has_bit}
 use Rattle.halo_sums.specs.Sets.{in_set}
@@ -39,3 +39,20 @@ within-is n mask alive below = same-tests (is_within mask alive) (lies_in (bits 
     (bits n mask) (has_bit alive) (λ i inside. within-has mask alive within i (bit-of-set n mask i inside)))
     (λ lies. within-by mask alive (λ i there. lies-all
     (bits n mask) (has_bit alive) lies i (sym (has_bit-bits n mask i (bit-below n mask i below there)) ∙ there)))
+
+-- a set that does not lie in another has a life that is not in it
+pub record HasOther (s : List Bool) (U : ℕ → Bool) : Type 0 where
+  pub life : ℕ
+  pub of_it : in_set s life ≡ true
+  pub other : U life ≡ false
+
+pub has-other : (s : List Bool) (U : ℕ → Bool) → lies_in s U ≡ false → HasOther s U
+has-other [] U e = absurd (cc)
+has-other (false ∷ s) U e = let h = has-other s (after_first U) e in
+    record { life = suc h.life; of_it = h.of_it; other = h.other }
+has-other (true ∷ s) U e = by-first (U 0) refl e (λ h. has-other s (after_first U) h)
+  where
+    by-first : (is : Bool) → U 0 ≡ is → (is && lies_in s (after_first U)) ≡ false
+        → (lies_in s (after_first U) ≡ false → HasOther s (after_first U)) → HasOther (true ∷ s) U
+    by-first false f g rest = record { life = 0; of_it = refl; other = f }
+    by-first true f g rest = let h = rest g in record { life = suc h.life; of_it = h.of_it; other = h.other }

@@ -1,5 +1,5 @@
 -- Sums of enclosures over the masks of all sets.
-use Rattle.std.proofs.Common.{ℕ, zero, suc, ◌+◌, ◌<◌, ℤ, arith, refl}
+use Rattle.std.proofs.Common.{ℕ, zero, suc, ◌+◌, ◌<◌, ◌≤◌, ℤ, arith, refl}
 use Rattle.std.proofs.lemmas.Int.{ints}
 use Rattle.halo_sums.specs.Sums.{int_sum_over, numbers_from, sum_over}
 use Rattle.halo_num.specs.Ends.{Ends, HasWidth}
@@ -29,3 +29,7 @@ sum-narrow shares widths (suc count) first each =
     let here = each first (omega arith) in
     let rest = sum-narrow shares widths count (suc first) (λ mask below. each mask (omega arith)) in
     record { near = omega (arith, ints, here.near, rest.near) }
+
+-- a greater width will do
+pub wider : (i : Ends) (v w : ℕ) → v ≤ w → HasWidth i v → HasWidth i w
+wider i v w h p = record { near = omega (arith, ints, p.near, h) }

@@ -1,0 +1,48 @@
+-- What a valid task says of its lives: how many they are, that they keep the rule of their tables, and that somebody
+-- survives of them.
+use Rattle.std.proofs.Common.{◌≡◌, ℕ, zero, suc, ◌+◌, ◌^◌, ◌<◌, ◌≤◌, List, [], ◌∷◌, length, Bool, cond, true, false, arith, refl}
+use Rattle.std.proofs.Math.Nat.{mul-pos, pow-le-pow_right}
+use Rattle.std.proofs.lemmas.List.{length-map}
+use Rattle.std.proofs.lemmas.List.Elements.{All-from_get_or}
+use Rattle.halo_sums.specs.Sums.{numbers_from, product_over}
+use Rattle.halo_table.specs.DecrementTable.{TableFile, survivors_at}
+use Rattle.halo_table.specs.declared.lives.Life.{Life}
+use Rattle.halo_model.specs.FromTables.{HasRow, life_of, lives_of}
+use Rattle.halo_model.specs.Horizon.{life_at}
+use Rattle.halo_model.specs.Life.{AreLives, after_first}
+use Rattle.halo_model.specs.Outcome.{joint_survivors}
+use Rattle.halo_model.proofs.FromTables.{lives_of-AreLives}
+use Rattle.halo_life.specs.PlainGroup.{IsGroup, PlainGroup}
+
+-- there are few sets
+pub few-sets : (n m : ℕ) → m ≡ 2 ^ n → n ≤ 12 → m ≤ 4096
+few-sets n m e few = let p : 2 ^ n ≤ 2 ^ 12 = pow-le-pow_right (omega arith) few in omega (arith, e, p)
+
+-- the lives of a group keep the rule of their tables
+pub group-lives : (n : ℕ) (g : PlainGroup) → IsGroup n g → AreLives (lives_of g.file g.lives)
+group-lives n g is =
+    lives_of-AreLives g.file is.sound g.lives (All-from_get_or (λ life. HasRow g.file life.table life.age) g.lives
+    (record { table = 0; age = 0 }) (λ i h. is.rows i (omega (arith, h, is.count))))
+
+pub count-lives : (g : PlainGroup) → length (lives_of g.file g.lives) ≡ length g.lives
+count-lives g = length-map g.lives (λ life. life_of g.file life.table life.age)
+
+-- somebody survives of lives of whom each has survivors
+pub some-survive : (file : TableFile) (T : ℕ) (U : ℕ → Bool) (lives : List Life) → ((i : ℕ)
+    → i < length lives → U i ≡ true → 0 < survivors_at file (life_at lives i).table ((life_at lives i).age + T))
+    → 0 < joint_survivors T U (lives_of file lives)
+some-survive file T U [] h = omega arith
+some-survive file T U (x ∷ lives) h = mul-pos (first (U 0) (h 0 (omega arith)))
+    (some-survive file T (after_first U) lives (λ i below. h (suc i) (omega (arith, below))))
+  where
+    first : (is : Bool) → (is ≡ true → 0 < survivors_at file x.table (x.age + T))
+        → 0 < cond is (survivors_at file x.table (x.age + T)) 1
+    first true k = k refl
+    first false k = omega arith
+
+-- 1 is worth something with interest
+pub some-interest : (p q : ℕ → ℕ)
+    → ((k : ℕ) → 1 ≤ q k) → (count first : ℕ) → 0 < product_over (numbers_from first count) (λ k. p k + q k)
+some-interest p q h zero first = omega arith
+some-interest p q h (suc count) first =
+    mul-pos (omega (arith, h first)) (some-interest p q h count (suc first))
