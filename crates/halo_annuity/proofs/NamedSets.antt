@@ -1,23 +1,20 @@
 -- Sets of named lives: how many there are, and that no other set is worth anything.
-use Rattle.std.proofs.Common.{◌≡◌, ℕ, zero, suc, ◌+◌, ◌*◌, ◌^◌, ◌<◌, ◌≤◌, List, [], ◌∷◌, length, map, Bool, cond, true, false, ◌&&◌, nat_eq, None, pos, arith, refl, ap, sym, ◌∙◌}
+use Rattle.std.proofs.Common.{◌≡◌, ℕ, zero, suc, ◌+◌, ◌*◌, ◌^◌, ◌<◌, ◌≤◌, List, [], ◌∷◌, length, Bool, cond, true, false, None, pos, arith, refl, ap, sym, ◌∙◌}
 use Rattle.halo_num.specs.Ends.{Ends}
-use Rattle.std.proofs.lemmas.Bool.Decides.{nat_tests}
-use Rattle.std.proofs.Math.Nat.{pow-suc}
 use Rattle.halo_sums.specs.Sums.{numbers_from, sum_over}
 use Rattle.halo_sums.specs.Sets.{in_set, sets, size_of}
 use Rattle.halo_sums.specs.Masks.{bits, has_bit}
-use Rattle.halo_sums.proofs.Numbers.{sum_over-numbers_ext, sum_over-numbers_next}
+use Rattle.halo_sums.proofs.Numbers.{sum_over-numbers_ext}
 use Rattle.halo_sums.proofs.Masks.{has_bit-bits}
-use Rattle.halo_sums.proofs.Sums.{sum_over-ext, sum_over-append, sum_over-map}
 use Rattle.halo_status.specs.Naming.{names_life}
 use Rattle.halo_status.specs.Pay.{PlainPay}
-use Rattle.halo_model.specs.Life.{AreLives, after_first}
+use Rattle.halo_model.specs.Life.{AreLives}
 use Rattle.halo_num.specs.Chance.{EnclosesChance}
 use Rattle.halo_model.specs.Basis.{Basis}
 use Rattle.halo_model.specs.Outcome.{joint_survivors}
 use Rattle.halo_model.specs.Coefficient.{form}
 use Rattle.halo_model.specs.Counts.{lives_named}
-use Rattle.halo_model.specs.Backward.{backward, gain, lies_in, loss}
+use Rattle.halo_model.specs.Backward.{backward, gain, loss}
 use Rattle.halo_model.proofs.Unnamed.{unnamed-do-not-count}
 use Rattle.halo_life.specs.Lists.{Lists, entry, nothing}
 use Rattle.halo_life.specs.Total.{is_within}

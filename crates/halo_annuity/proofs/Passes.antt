@@ -1,5 +1,5 @@
 -- The steps of a pass, for all sets of lives.
-use Rattle.std.proofs.Common.{◌≡◌, ℕ, suc, ◌*◌, ◌^◌, ◌<◌, List, Bool, ℤ, pos, ◌+ℤ◌, arith, refl, ◌∙◌}
+use Rattle.std.proofs.Common.{◌≡◌, ℕ, suc, ◌*◌, ◌^◌, ◌<◌, List, ℤ, pos, ◌+ℤ◌, arith, refl}
 use Rattle.std.proofs.lemmas.Int.{ints}
 use Rattle.halo_sums.specs.Masks.{bits}
 use Rattle.halo_num.specs.Ends.{Ends, fine}

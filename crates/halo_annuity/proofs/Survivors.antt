@@ -1,8 +1,8 @@
 -- The chance of a set to survive a year, as the products of its lives tell it.
-use Rattle.std.proofs.Common.{◌≡◌, ℕ, suc, ◌+◌, ◌*◌, ◌<◌, ◌≤◌, List, [], ◌∷◌, length, Bool, cond, true, false, nat_lt, arith, refl, ap, sym, ◌∙◌}
+use Rattle.std.proofs.Common.{◌≡◌, ℕ, suc, ◌+◌, ◌*◌, ◌<◌, List, [], ◌∷◌, length, Bool, cond, true, false, nat_lt, arith, refl, ap, sym, ◌∙◌}
 use Rattle.std.proofs.lemmas.Bool.Decides.{nat_tests}
 use Rattle.halo_sums.proofs.SetMasks.{length-bits}
-use Rattle.halo_sums.specs.Sets.{in_set, size_of}
+use Rattle.halo_sums.specs.Sets.{in_set}
 use Rattle.halo_sums.specs.Masks.{bits, has_bit}
 use Rattle.halo_table.specs.DecrementTable.{TableFile, survivors_at}
 use Rattle.halo_table.specs.declared.lives.Life.{Life}

@@ -1,5 +1,5 @@
 -- A year back for all sets of lives: what is due from the next year on, and what is due in the year.
-use Rattle.std.proofs.Common.{◌≡◌, ℕ, zero, suc, ◌+◌, ◌*◌, ◌-◌, ◌^◌, ◌<◌, ◌≤◌, arith, refl, ap, sym, ◌∙◌, List, [], ◌∷◌, length, Bool, true, false, cond, ◌&&◌, nat_le, nat_lt, ℤ, pos, ◌-ℤ◌, mul_comm, subst}
+use Rattle.std.proofs.Common.{◌≡◌, ℕ, zero, suc, ◌+◌, ◌*◌, ◌-◌, ◌^◌, ◌<◌, ◌≤◌, arith, refl, ap, sym, ◌∙◌, List, length, Bool, true, false, cond, ◌&&◌, nat_le, nat_lt, ℤ, pos, ◌-ℤ◌, mul_comm, subst}
 use Rattle.std.proofs.Math.Path.{fun_ext}
 use Rattle.std.proofs.lemmas.Int.{ints}
 use Rattle.halo_sums.specs.Masks.{bits, has_bit}
@@ -11,12 +11,12 @@ use Rattle.halo_num.specs.Enclosure.{Encloses}
 use Rattle.halo_num.proofs.Enclosures.{encloses_at}
 use Rattle.halo_status.specs.Naming.{names_life}
 use Rattle.halo_status.specs.Pay.{PlainPay}
-use Rattle.halo_model.specs.Backward.{above_zero, below_zero, lies_in}
+use Rattle.halo_model.specs.Backward.{above_zero, below_zero}
 use Rattle.halo_model.specs.Basis.{Basis, taken}
 use Rattle.halo_model.specs.Chance.{asked}
 use Rattle.halo_model.specs.Coefficient.{form}
 use Rattle.halo_model.specs.Horizon.{horizon}
-use Rattle.halo_model.specs.Life.{AreLives, after_first}
+use Rattle.halo_model.specs.Life.{AreLives}
 use Rattle.halo_model.specs.Order.{orders_taken}
 use Rattle.halo_model.specs.Outcome.{joint_survivors}
 use Rattle.halo_model.specs.OrderLaws.{year_numbers}

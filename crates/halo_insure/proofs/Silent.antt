@@ -1,12 +1,11 @@
 -- A set with a life that the body does not name has the coefficient 0.
-use Rattle.std.proofs.Common.{◌≡◌, ◌⊎◌, ℕ, zero, suc, ◌+◌, ◌≤◌, arith, refl, ap, sym, ◌∙◌, List, [], ◌∷◌, length, set, get_or-set_other, Bool, true, false, cond, Option, Some, None, ℤ, pos, ◌-ℤ◌, inl, inr, ⊎_elim}
+use Rattle.std.proofs.Common.{◌≡◌, ◌⊎◌, ℕ, zero, suc, ◌≤◌, arith, refl, ap, sym, ◌∙◌, List, [], ◌∷◌, length, set, get_or-set_other, Bool, true, false, cond, Option, Some, None, ℤ, pos, ◌-ℤ◌, inl, inr, ⊎_elim}
 use Rattle.std.proofs.Math.Path.{fun_ext}
 use Rattle.std.proofs.lemmas.Int.{ints}
-use Rattle.halo_sums.specs.Sums.{indicator, numbers_from, sum_over}
+use Rattle.halo_sums.specs.Sums.{indicator}
 use Rattle.halo_sums.specs.Sets.{in_set, size_of}
 use Rattle.halo_sums.specs.Coefficients.{coefficient}
 use Rattle.halo_sums.proofs.Coefficients.{coefficient-with, coefficient-without}
-use Rattle.halo_sums.proofs.Numbers.{sum_over-numbers_next}
 use Rattle.halo_status.specs.Tree.{Tree, life, term, joint, last, at_least, exactly, after}
 use Rattle.halo_status.specs.Naming.{any_names_life, names_life}
 use Rattle.halo_status.specs.Pay.{PlainPay}

@@ -1,5 +1,5 @@
 -- The total over the sets of the lives alive encloses the value of an insurance, within its count.
-use Rattle.std.proofs.Common.{◌≡◌, ℕ, zero, suc, ◌+◌, ◌*◌, ◌-◌, ◌^◌, ◌<◌, ◌≤◌, arith, refl, ap, sym, ◌∙◌, List, [], ◌∷◌, length, map, flat_map, Bool, true, false, cond, ℤ, pos, ◌+ℤ◌, ◌*ℤ◌, ◌-ℤ◌}
+use Rattle.std.proofs.Common.{◌≡◌, ℕ, suc, ◌+◌, ◌*◌, ◌-◌, ◌^◌, ◌<◌, ◌≤◌, arith, refl, ap, sym, ◌∙◌, List, [], ◌∷◌, length, map, flat_map, Bool, true, false, cond, ℤ, pos, ◌+ℤ◌, ◌*ℤ◌, ◌-ℤ◌}
 use Rattle.std.proofs.lemmas.Int.{ints}
 use Rattle.halo_sums.specs.Masks.{bits, has_bit}
 use Rattle.halo_sums.specs.Sums.{int_sum_over, numbers_from, sum_over}
@@ -11,7 +11,7 @@ use Rattle.halo_sums.proofs.SetMasks.{length-bits}
 use Rattle.halo_sums.proofs.Sets.{int_sum_over-sets, int_sum_over-subsets_with, int_sum_over-subsets_without}
 use Rattle.halo_num.specs.Enclosure.{Encloses}
 use Rattle.halo_num.specs.Ends.{Ends, HasWidth}
-use Rattle.halo_num.proofs.Enclosures.{encloses_add, encloses_at, encloses_sub}
+use Rattle.halo_num.proofs.Enclosures.{encloses_at, encloses_sub}
 use Rattle.halo_status.specs.Pay.{PlainPay}
 use Rattle.halo_model.specs.Backward.{above_zero, below_zero, lies_in, outside}
 use Rattle.halo_model.specs.Basis.{Basis, accumulated, taken}
