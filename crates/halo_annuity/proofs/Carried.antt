@@ -16,6 +16,7 @@ use Rattle.halo_model.specs.Basis.{Basis, accumulated}
 use Rattle.halo_model.specs.Backward.{backward}
 use Rattle.halo_annuity.specs.Worth.{Carries, EnclosesCarried, EnclosesSet, EnclosesSetWorth, paid_in_all, waited}
 use Rattle.halo_compile.proofs.Sums.{wider}
+use Rattle.halo_compile.proofs.Interest.{accumulated-year}
 
 -- an interval encloses its own lower end
 own : (i : Ends) → i.lo ≤ℤ i.hi → Encloses i i.lo fine
@@ -129,10 +130,6 @@ backward-gone b rule s paid (suc years) t none =
     let next : joint_survivors (suc t) (in_set s) b.lives ≡ 0 =
     omega (arith, none, joint-falls t (in_set s) b.lives rule) in
     rw (none, backward-gone b rule s paid years (suc t) next) (omega arith)
-
--- the interest of one year more
-pub accumulated-year : (b : Basis) (t : ℕ) → t < b.last_time → accumulated b t ≡ (b.p t + b.q t) * accumulated b (suc t)
-accumulated-year b t h = let e : b.last_time - t ≡ suc (b.last_time - suc t) = omega arith in rw e refl
 
 -- a set's value, carried back for a year
 pub carried-set : (b : Basis) → AreLives b.lives

@@ -3,7 +3,6 @@ pub mod Carried
 pub mod Counting
 pub mod Survivors
 pub mod Totals
-pub mod OneMore
 pub mod Modest
 pub mod Passes
 pub mod TaskFacts

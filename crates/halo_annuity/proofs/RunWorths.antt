@@ -38,6 +38,7 @@ use Rattle.halo_annuity.proofs.Counting.{count-has-room, most-together, paid-wit
 use Rattle.halo_annuity.proofs.Modest.{factor-sized, most-small, small-within}
 use Rattle.halo_annuity.proofs.Passes.{none-worth}
 use Rattle.halo_annuity.proofs.Totals.{share-of-ties}
+use Rattle.halo_compile.proofs.Coefficients.{parts-size}
 
 -- whether a time is one of the run
 both-true : (m t n : ℕ) → m ≤ t → t ≤ n → (nat_le m t && nat_le t n) ≡ true
@@ -181,10 +182,6 @@ pub times-sized : (z : ℤ) (n : ℕ) → IsSized z n → above_zero z + below_z
 times-sized (pos m) n h = omega (arith, ints, h.high)
 times-sized (negsuc m) n h = omega (arith, ints, h.low)
 
-times-is : (z : ℤ) → above_zero z + below_zero z ≡ size z
-times-is (pos m) = omega arith
-times-is (negsuc m) = omega arith
-
 -- the width and the size of a part
 module _ (b : Basis) (pay : PlainPay) (annual : pay.kind ≢ Insurance)
     (one : pay.amount ≡ 1) (some_nodes : 1 ≤ nodes pay.body) (some_years : 1 ≤ horizon b.lives pay.body)
@@ -219,7 +216,7 @@ module _ (b : Basis) (pay : PlainPay) (annual : pay.kind ≢ Insurance)
       sizes-within pay n years run.first inside.from (first-years pay.kind years run.first some_years started) in
       let this = sum_over-numbers_one
       (2 ^ n) 0 mask (λ k. size (form pay run.first (bits n k))) (omega arith) (omega (arith, below)) in
-      omega (arith, times-is z, ap size is, this, all)
+      omega (arith, parts-size z, ap size is, this, all)
 
   each : (u : ℕ) → u ≤ run.last → sum_over (0 ∷ []) (λ (k : ℕ). paid_in pay run times u) ≤ bound
   each u h = omega (

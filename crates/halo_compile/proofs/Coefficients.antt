@@ -1,5 +1,5 @@
 -- The coefficients of sets: how large they are, and that they do not see the amount of a pay.
-use Rattle.std.proofs.Common.{◌≡◌, ℕ, ◌-◌, ◌^◌, ◌<◌, ◌≤◌, List, [], ◌∷◌, length, Bool, true, false, ℤ, pos, negsuc, arith, refl, ◌∙◌}
+use Rattle.std.proofs.Common.{◌≡◌, ℕ, ◌+◌, ◌-◌, ◌^◌, ◌<◌, ◌≤◌, List, [], ◌∷◌, length, Bool, true, false, ℤ, pos, negsuc, arith, refl, ◌∙◌}
 use Rattle.std.proofs.Math.Nat.{pow-le-pow_right}
 use Rattle.std.proofs.lemmas.Int.{ints}
 use Rattle.halo_sums.specs.Masks.{bits}
@@ -10,6 +10,7 @@ use Rattle.halo_status.specs.Pay.{PlainPay}
 use Rattle.halo_status.specs.View.{is_on}
 use Rattle.halo_model.specs.Backward.{above_zero, below_zero}
 use Rattle.halo_model.specs.Coefficient.{exists_by_mark, form, view_of}
+use Rattle.halo_model.specs.Counts.{size}
 use Rattle.halo_model.specs.Enclosed.{of_one}
 use Rattle.halo_poly.specs.Poly.{coefficient_at}
 use Rattle.halo_compile.specs.Form.{IsPolyOf}
@@ -39,6 +40,11 @@ above-sized (negsuc m) n h = omega arith
 pub below-sized : (z : ℤ) (n : ℕ) → IsSized z n → below_zero z ≤ n
 below-sized (pos m) n h = omega arith
 below-sized (negsuc m) n h = omega (arith, ints, h.low)
+
+-- together they are its size
+pub parts-size : (z : ℤ) → above_zero z + below_zero z ≡ size z
+parts-size (pos m) = omega arith
+parts-size (negsuc m) = omega arith
 
 -- the form of a pay does not see its amount
 pub form-of-one : (pay : PlainPay) (t : ℕ) (s : List Bool) → form pay t s ≡ form (of_one pay) t s

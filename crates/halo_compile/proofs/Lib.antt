@@ -14,3 +14,4 @@ pub mod Ranks
 pub mod Sums
 pub mod Tasks
 pub mod Within
+pub mod Interest

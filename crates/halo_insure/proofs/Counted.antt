@@ -28,6 +28,7 @@ use Rattle.halo_model.specs.SetValue.{SomeEvents}
 use Rattle.halo_model.specs.Backward.{above_zero, below_zero}
 use Rattle.halo_insure.specs.Dues.{SetsWithinCount, coefficient_before, due_by_both, due_of, ends_count}
 use Rattle.halo_insure.proofs.Silent.{few-or-none}
+use Rattle.halo_compile.proofs.Coefficients.{parts-size}
 
 -- at most as much at each number, at most as much in sum
 sum-numbers-mono : (count first : ℕ) (f g : ℕ → ℕ) → ((i : ℕ) → first ≤ i → i < first + count → f i ≤ g i)
@@ -55,10 +56,6 @@ greatest-at least first (suc count) j f low high = ⊎_elim
     (λ before. omega (arith, greatest-at least (suc first) count j f before (omega arith)))
     (λ here. let e : j ≡ first = omega arith in rw e (omega arith))
     (cases_lt first j)
-
-signs-size : (z : ℤ) → above_zero z + below_zero z ≡ size z
-signs-size (pos n) = omega arith
-signs-size (negsuc n) = omega arith
 
 size-high : (z : ℤ) → z ≤ℤ pos (size z)
 size-high (pos n) = omega (arith, ints)
@@ -219,8 +216,8 @@ module _
         cond-most D (P * below_zero c),
         cond-most E (P * above_zero d),
         cond-most E (P * below_zero d),
-        ap (λ (k : ℕ). P * k) (signs-size c),
-        ap (λ (k : ℕ). P * k) (signs-size d),
+        ap (λ (k : ℕ). P * k) (parts-size c),
+        ap (λ (k : ℕ). P * k) (parts-size d),
         r,
         q,
       )

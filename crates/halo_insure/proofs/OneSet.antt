@@ -7,9 +7,8 @@ use Rattle.halo_num.specs.Enclosure.{Encloses}
 use Rattle.halo_model.specs.Basis.{Basis, accumulated}
 use Rattle.halo_insure.specs.declared.due.Due.{Due}
 use Rattle.halo_insure.specs.OneSet.{EnclosesDues, EndWithNobody, GoesBack, most_due, worth_of_dues}
-
-accumulated-back : (b : Basis) (k : ℕ) → k < b.last_time → accumulated b k ≡ (b.p k + b.q k) * accumulated b (suc k)
-accumulated-back b k h = let e : b.last_time - k ≡ suc (b.last_time - suc k) = omega arith in rw e
+use Rattle.halo_compile.proofs.Interest.{accumulated-year}
+use Rattle.halo_compile.proofs.Sums.{wider}
 
 module _ (b : Basis) (leaving alive : ℕ → ℕ) (ended : (k : ℕ) → EndWithNobody leaving alive k) (due : ℕ → Due) where
   -- where nobody is left nothing is worth anything
@@ -19,9 +18,6 @@ module _ (b : Basis) (leaving alive : ℕ → ℕ) (ended : (k : ℕ) → EndWit
       let no_leaving : leaving k ≡ 0 = (ended k).leaves none in
       let no_survivor : alive (suc k) ≡ 0 = (ended k).survives none in
       rw (no_leaving, no_survivor, nothing-worth years (suc k) no_survivor) (omega arith)
-
-  wider : (r : Ends) (v w : ℕ) → v ≤ w → HasWidth r v → HasWidth r w
-  wider r v w h p = record { near = let k = p.near in omega (arith, ints) }
 
   years-wide : (d years less more : ℕ)
       → less ≤ more → years * ((d + 3) * less) + (d + 3) * more ≤ suc years * ((d + 3) * more)
@@ -38,7 +34,7 @@ module _ (b : Basis) (leaving alive : ℕ → ℕ) (ended : (k : ℕ) → EndWit
       → EnclosesDues b leaving alive due d (suc k) years later → EnclosesDues b leaving alive due d k (suc years) result
   year-more d k years v
       w later result leave survive discount within narrow_v narrow_w leaves survives enclosed one back after = record {
-        encloses = rw (accumulated-back b k within) (back.encloses (leaving k)
+        encloses = rw (accumulated-year b k within) (back.encloses (leaving k)
             (alive (suc k)) (alive k) (worth_of_dues b leaving alive due (suc k) years) (accumulated b (suc k)) (b.q k)
             (b.p k + b.q k) leaves.encloses survives.encloses enclosed after.encloses (nothing-worth years (suc k)));
         from = back.from;

@@ -1,11 +1,10 @@
-use Rattle.std.proofs.Common.{◌≡◌, ℕ, cond, true, false, arith, ◌∙◌}
+use Rattle.std.proofs.Common.{◌≡◌, ℕ, cond, true, false, below_more, arith, ◌∙◌}
 use Rattle.halo_sums.specs.Sums.{numbers_from, sum_over}
 use Rattle.halo_life.specs.Lists.{entry, nothing}
 use Rattle.halo_life.specs.Total.{is_within}
 use Rattle.halo_annuity.specs.SetSteps.{CarriesBy}
 use Rattle.halo_life.proofs.Sums.{sum_over-numbers_push}
 use Rattle.halo_annuity.proofs.NamedSets.{one-cost}
-use Rattle.halo_annuity.proofs.OneMore.{one-more}
 use Rattle.halo_annuity.proofs.carry.carry_sets.Goals as goal
 
 pub loop-set-preserved : goal.loop-set-preserved
@@ -17,13 +16,13 @@ loop-set-preserved g c =
     let before = c.args.work.now in
     let after = c.carry_set.new.work in
     record {
-      plus = one-more (λ k. is_within k c.args.named ≡ true
+      plus = below_more (λ k. is_within k c.args.named ≡ true
           → CarriesBy c.args.discount (entry before.survivals k) (entry before.plus k) (entry after.plus k)) n
           (λ k h. rw ((step.others k (omega (arith, h))).0) (i.plus k h)) (rw (← now.0, ← i.survivals) step.plus);
-      minus = one-more (λ k. is_within k c.args.named ≡ true
+      minus = below_more (λ k. is_within k c.args.named ≡ true
           → CarriesBy c.args.discount (entry before.survivals k) (entry before.minus k) (entry after.minus k)) n
           (λ k h. rw ((step.others k (omega (arith, h))).1) (i.minus k h)) (rw (← now.1, ← i.survivals) step.minus);
-      none = one-more
+      none = below_more
           (λ k. is_within k c.args.named ≡ false → (entry after.plus k ≡ nothing) × (entry after.minus k ≡ nothing)) n
           (λ k h. rw ((step.others k (omega (arith, h))).0, (step.others k (omega (arith, h))).1)
           (i.none k h)) step.none;
