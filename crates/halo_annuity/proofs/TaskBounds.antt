@@ -13,11 +13,11 @@ use Rattle.halo_model.proofs.AnnuityBounds.{annuity-is-bounded, due-is-worth-one
 use Rattle.halo_life.specs.PlainGroup.{IsGroup}
 use Rattle.halo_compile.specs.ValidTask.{IsTask}
 use Rattle.halo_compile.specs.declared.task.Task.{Task}
-use Rattle.halo_annuity.specs.AtTime.{HaveSurvivorsAt, PaysAtOnce}
-use Rattle.halo_compile.specs.OfTask.{basis_of_task, pay_of_task}
+use Rattle.halo_compile.specs.OfTask.{HaveSurvivorsAt, basis_of_task, pay_of_task}
+use Rattle.halo_annuity.specs.AtTime.{PaysAtOnce}
 use Rattle.halo_annuity.proofs.Carried.{positive-both}
-use Rattle.halo_compile.proofs.Tasks.{count-lives, group-lives}
-use Rattle.halo_annuity.proofs.TaskFacts.{interest-there, no-mark, positive-ranks, survivors-there}
+use Rattle.halo_compile.proofs.Tasks.{count-lives, group-lives, interest-there, survivors-there}
+use Rattle.halo_annuity.proofs.TaskFacts.{no-mark, positive-ranks}
 
 most-is : (kind : Kind) → kind ≢ Insurance → (m : Measures) → most_worth kind m ≡ m.factor * (m.horizon + 1)
 unfolding most_worth

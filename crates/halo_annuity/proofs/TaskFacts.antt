@@ -11,26 +11,14 @@ use Rattle.halo_status.specs.declared.pay.Kind.{Kind}
 use Rattle.halo_status.specs.declared.pay.Kind.TheVariants.{Insurance, Due, Immediate}
 use Rattle.halo_status.specs.declared.pay.Mark.{Mark}
 use Rattle.halo_model.specs.Life.{PlainLife}
-use Rattle.halo_model.specs.Outcome.{joint_survivors}
-use Rattle.halo_model.specs.FromTables.{lives_of}
 use Rattle.halo_model.specs.Horizon.{horizon}
 use Rattle.halo_model.specs.Payment.{payment}
 use Rattle.halo_model.specs.Segment.{first_time, last_time_of_form}
 use Rattle.halo_model.specs.Backward.{may_pay, paid_at, years_passed}
 use Rattle.halo_model.proofs.HorizonIsLeast.{horizon-is-least}
 use Rattle.halo_life.specs.Lists.{Lists}
-use Rattle.halo_life.specs.PlainGroup.{IsGroup}
 use Rattle.halo_life.specs.Total.{AreModest}
-use Rattle.halo_interest.specs.Rates.{IsInterest, rate_of}
-use Rattle.halo_interest.proofs.InForce.{in_force_is}
-use Rattle.halo_sums.specs.Masks.{has_bit}
-use Rattle.halo_model.specs.Basis.{accumulated}
-use Rattle.halo_model.specs.Order.{declared_order}
-use Rattle.halo_compile.specs.declared.task.Task.{Task}
 use Rattle.halo_compile.proofs.Ranks.{ranks-ask}
-use Rattle.halo_compile.proofs.Tasks.{some-interest, some-survive}
-use Rattle.halo_annuity.specs.AtTime.{HaveSurvivorsAt}
-use Rattle.halo_compile.specs.OfTask.{basis_of_task}
 use Rattle.halo_annuity.proofs.Counting.{never-before}
 
 -- the horizon is at least a year, and the last time of the form within it
@@ -77,21 +65,6 @@ no-mark pay valid annual = by-mark pay.mark refl
 -- lists with the same values are as modest
 pub modest-same : (m k : ℕ) (a b : Lists) → k ≡ m → a.plus ≡ b.plus → a.minus ≡ b.minus → AreModest m b → AreModest k a
 modest-same m k a b e plus minus h mask below = rw (plus, minus) (h mask (omega (arith, e, below)))
-
-module _ {n m : ℕ} (task : Task n m) where
-  -- the living of a set have survivors together
-  pub survivors-there : IsGroup n task.group.now → (t alive : ℕ) → HaveSurvivorsAt task t alive
-      → 0 < joint_survivors t (has_bit alive) (lives_of task.group.now.file task.group.now.lives)
-  survivors-there group t alive there =
-      some-survive task.group.now.file t (has_bit alive) task.group.now.lives
-      (λ i below. there i (omega (arith, below, group.count)))
-
-  -- 1 is worth something with the interest of the task
-  pub interest-there : IsInterest task.interest.now → (t : ℕ)
-      → 0 < accumulated (basis_of_task task declared_order) t
-  interest-there interest t = some-interest
-      (λ k. (rate_of task.interest.now k).p) (λ k. (rate_of task.interest.now k).q)
-      (λ k. (in_force_is task.interest.now interest k).q_from) (200 - t) t
 
 -- a pass over some of the years of a horizon makes few enough products
 pub pass-cost : (years horizon named sets : ℕ) → years ≤ horizon

@@ -16,12 +16,12 @@ use Rattle.halo_life.specs.PlainGroup.{IsGroup}
 use Rattle.halo_life.specs.Total.{AreModest, total_of}
 use Rattle.halo_compile.specs.ValidTask.{IsTask}
 use Rattle.halo_compile.specs.declared.task.Task.{Task}
-use Rattle.halo_annuity.specs.AtTime.{EnclosesAnnuity, HaveSurvivorsAt, HoldAt}
-use Rattle.halo_compile.specs.OfTask.{basis_of_task, pay_of_task}
+use Rattle.halo_compile.specs.OfTask.{HaveSurvivorsAt, basis_of_task, pay_of_task}
+use Rattle.halo_annuity.specs.AtTime.{EnclosesAnnuity, HoldAt}
 use Rattle.halo_annuity.specs.OfTask.{last_of_task}
 use Rattle.halo_annuity.proofs.Modest.{values-modest}
-use Rattle.halo_compile.proofs.Tasks.{count-lives, group-lives}
-use Rattle.halo_annuity.proofs.TaskFacts.{interest-there, last-in, modest-same, no-mark, positive-ranks, some-nodes, some-years, survivors-there}
+use Rattle.halo_compile.proofs.Tasks.{count-lives, group-lives, interest-there, survivors-there}
+use Rattle.halo_annuity.proofs.TaskFacts.{last-in, modest-same, no-mark, positive-ranks, some-nodes, some-years}
 use Rattle.halo_annuity.proofs.Totals.{total-encloses, total-narrow}
 
 -- an interval with the same ends encloses the same

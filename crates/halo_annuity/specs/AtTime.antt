@@ -1,5 +1,5 @@
 -- The values of an annuity at a time that a pass back from the horizon comes by.
-use Rattle.std.specs.Prelude.{◌≡◌, ℕ, suc, ◌-◌, ◌<◌, true, pos}
+use Rattle.std.specs.Prelude.{◌≡◌, ℕ, suc, ◌-◌, true, pos}
 use Rattle.halo_sums.specs.Masks.{has_bit}
 use Rattle.halo_num.specs.Ends.{Ends}
 use Rattle.halo_num.specs.Enclosure.{Encloses}
@@ -12,7 +12,6 @@ use Rattle.halo_status.specs.declared.view.View.TheVariants.{Due as DueView}
 use Rattle.halo_model.specs.Order.{Ties}
 use Rattle.halo_model.specs.Value.{denominator, numerator}
 use Rattle.halo_life.specs.Lists.{Lists}
-use Rattle.halo_life.specs.PlainGroup.{survivors_in}
 use Rattle.halo_compile.specs.declared.task.Task.{Task}
 use Rattle.halo_annuity.specs.Bounds.{IsWithinCount}
 use Rattle.halo_compile.specs.OfTask.{basis_of_task, pay_of_task}
@@ -25,11 +24,6 @@ abbrev pub HoldAt : {n m : ℕ} → Task n m → ℕ → Lists → Type 0
 HoldAt {n} task t lists = (ties : Ties) →
     let years = suc (last_of_task task) - t in
     HoldValues (basis_of_task task ties) (pay_of_task task) t n t years lists
-
--- the lives of a set that there are have survivors at time t: each has a row at its age then
-abbrev pub HaveSurvivorsAt : {n m : ℕ} → Task n m → ℕ → ℕ → Type 0
-HaveSurvivorsAt {n} task t alive =
-    (i : ℕ) → i < n → has_bit alive i ≡ true → 0 < survivors_in task.group.now t i
 
 -- i encloses the value at time t of the annuity of 1 of a task with the lives of a set alive, and
 -- is no wider than its count

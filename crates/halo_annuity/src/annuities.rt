@@ -4,7 +4,8 @@ ghost use Rattle.halo_num.specs.Ends.{fine};
 ghost use Rattle.halo_status.specs.declared.pay.Kind.TheVariants.{Insurance};
 ghost use Rattle.halo_life.specs.Total.{AreModest, total_of};
 ghost use Rattle.halo_compile.specs.ValidTask.{IsTask};
-ghost use Rattle.halo_annuity.specs.AtTime.{EnclosesAnnuity, HaveSurvivorsAt, HoldAt, PaysAtOnce};
+ghost use Rattle.halo_compile.specs.OfTask.{HaveSurvivorsAt};
+ghost use Rattle.halo_annuity.specs.AtTime.{EnclosesAnnuity, HoldAt, PaysAtOnce};
 ghost use Rattle.halo_annuity.specs.Bounds.{IsWithinMost};
 ghost use Rattle.halo_annuity.specs.OfTask.{products_of_pass};
 

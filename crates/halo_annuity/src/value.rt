@@ -5,7 +5,8 @@ ghost use Rattle.halo_status.specs.ValidPay.{HasValidVary};
 ghost use Rattle.halo_status.specs.declared.pay.Kind.TheVariants.{Insurance};
 ghost use Rattle.halo_model.specs.Counts.{greatest_factor};
 ghost use Rattle.halo_compile.specs.ValidTask.{IsTask};
-ghost use Rattle.halo_annuity.specs.AtTime.{EnclosesAnnuity, HaveSurvivorsAt, HoldAt, PaysAtOnce};
+ghost use Rattle.halo_compile.specs.OfTask.{HaveSurvivorsAt};
+ghost use Rattle.halo_annuity.specs.AtTime.{EnclosesAnnuity, HoldAt, PaysAtOnce};
 ghost use Rattle.halo_annuity.specs.Bounds.{IsWithinMost};
 
 use halo_compile::{Task, between, greatest_factor};

@@ -1,6 +1,6 @@
 -- What a valid task says of its lives: how many they are, that they keep the rule of their tables, and that somebody
 -- survives of them.
-use Rattle.std.proofs.Common.{◌≡◌, ℕ, zero, suc, ◌+◌, ◌^◌, ◌<◌, ◌≤◌, List, [], ◌∷◌, length, Bool, cond, true, false, arith, refl}
+use Rattle.std.proofs.Common.{◌≡◌, ℕ, zero, suc, ◌+◌, ◌-◌, ◌^◌, ◌<◌, ◌≤◌, List, [], ◌∷◌, length, Bool, cond, true, false, arith, refl}
 use Rattle.std.proofs.Math.Nat.{mul-pos, pow-le-pow_right}
 use Rattle.std.proofs.lemmas.List.{length-map}
 use Rattle.std.proofs.lemmas.List.Elements.{All-from_get_or}
@@ -13,6 +13,13 @@ use Rattle.halo_model.specs.Life.{AreLives, after_first}
 use Rattle.halo_model.specs.Outcome.{joint_survivors}
 use Rattle.halo_model.proofs.FromTables.{lives_of-AreLives}
 use Rattle.halo_life.specs.PlainGroup.{IsGroup, PlainGroup}
+use Rattle.halo_sums.specs.Masks.{has_bit}
+use Rattle.halo_interest.specs.Rates.{IsInterest, rate_of}
+use Rattle.halo_interest.proofs.InForce.{in_force_is}
+use Rattle.halo_model.specs.Basis.{accumulated}
+use Rattle.halo_model.specs.Order.{declared_order}
+use Rattle.halo_compile.specs.OfTask.{HaveSurvivorsAt, basis_of_task}
+use Rattle.halo_compile.specs.declared.task.Task.{Task}
 
 -- there are few sets
 pub few-sets : (n m : ℕ) → m ≡ 2 ^ n → n ≤ 12 → m ≤ 4096
@@ -46,3 +53,18 @@ pub some-interest : (p q : ℕ → ℕ)
 some-interest p q h zero first = omega arith
 some-interest p q h (suc count) first =
     mul-pos (omega (arith, h first)) (some-interest p q h count (suc first))
+
+module _ {n m : ℕ} (task : Task n m) where
+  -- the living of a set have survivors together
+  pub survivors-there : IsGroup n task.group.now → (t alive : ℕ) → HaveSurvivorsAt task t alive
+      → 0 < joint_survivors t (has_bit alive) (lives_of task.group.now.file task.group.now.lives)
+  survivors-there group t alive there =
+      some-survive task.group.now.file t (has_bit alive) task.group.now.lives
+      (λ i below. there i (omega (arith, below, group.count)))
+
+  -- 1 is worth something with the interest of the task
+  pub interest-there : IsInterest task.interest.now → (t : ℕ)
+      → 0 < accumulated (basis_of_task task declared_order) t
+  interest-there interest t = some-interest
+      (λ k. (rate_of task.interest.now k).p) (λ k. (rate_of task.interest.now k).q)
+      (λ k. (in_force_is task.interest.now interest k).q_from) (200 - t) t

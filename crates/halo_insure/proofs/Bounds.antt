@@ -5,8 +5,7 @@ use Rattle.halo_sums.specs.Masks.{has_bit}
 use Rattle.halo_sums.specs.Sums.{numbers_from}
 use Rattle.halo_sums.proofs.Sums.{sum_over-const}
 use Rattle.halo_num.specs.Ends.{Ends}
-use Rattle.halo_interest.specs.Rates.{IsInterest, rate_of}
-use Rattle.halo_interest.proofs.InForce.{in_force_is}
+use Rattle.halo_interest.specs.Rates.{IsInterest}
 use Rattle.halo_status.specs.Pay.{PlainPay}
 use Rattle.halo_status.specs.declared.pay.Kind.{Kind}
 use Rattle.halo_status.specs.declared.pay.Kind.TheVariants.{Insurance}
@@ -23,12 +22,12 @@ use Rattle.halo_model.proofs.EvenTies.{factorial-some}
 use Rattle.halo_model.proofs.Orders.{orders-count}
 use Rattle.halo_model.specs.SetValue.{all_events}
 use Rattle.halo_life.specs.Lists.{Lists}
-use Rattle.halo_life.specs.PlainGroup.{IsGroup, survivors_in}
+use Rattle.halo_life.specs.PlainGroup.{IsGroup}
 use Rattle.halo_life.specs.Total.{total_of}
-use Rattle.halo_compile.proofs.Tasks.{some-interest, some-survive}
+use Rattle.halo_compile.proofs.Tasks.{interest-there, survivors-there}
 use Rattle.halo_compile.specs.ValidTask.{IsTask}
 use Rattle.halo_compile.specs.declared.task.Task.{Task}
-use Rattle.halo_compile.specs.OfTask.{pay_of_task}
+use Rattle.halo_compile.specs.OfTask.{HaveSurvivorsAt, pay_of_task}
 use Rattle.halo_insure.specs.OfTask.{HoldDuesAt, insured_basis}
 use Rattle.halo_insure.specs.Total.{EnclosesInsurance, HoldDues}
 use Rattle.halo_insure.proofs.Tasks.{are-lives, end-by, lives-of-task, same-insurance, unit-valid}
@@ -43,15 +42,11 @@ some-orders all_orders n =
     omega (arith, count, each, factorial-some (length (numbers_from 0 n)))
 
 pub some-denominator : {n m : ℕ} (task : Task n m) → IsGroup n task.group.now → IsInterest task.interest.now
-    → (t alive : ℕ) → ((i : ℕ) → i < n → has_bit alive i ≡ true → 0 < survivors_in task.group.now t i)
-    → 0 < denominator (insured_basis task) t (has_bit alive)
+    → (t alive : ℕ) → HaveSurvivorsAt task t alive → 0 < denominator (insured_basis task) t (has_bit alive)
 unfolding denominator
-some-denominator {n} {m} task group interest t alive living =
-    mul-pos (some-orders task.group.now.ties (length (insured_basis task).lives)) (mul-pos
-    (some-survive task.group.now.file t
-    (has_bit alive) task.group.now.lives (λ i below. living i (omega (arith, below, group.count))))
-    (some-interest (λ k. (rate_of task.interest.now k).p)
-    (λ k. (rate_of task.interest.now k).q) (λ k. (in_force_is task.interest.now interest k).q_from) (200 - t) t))
+some-denominator task group interest t alive there =
+    mul-pos (some-orders task.group.now.ties (length (insured_basis task).lives))
+    (mul-pos (survivors-there task group t alive there) (interest-there task interest t))
 
 -- the most that it can be worth
 pub most-is : (kind : Kind) → kind ≡ Insurance → (m : Measures) → most_worth kind m ≡ m.factor

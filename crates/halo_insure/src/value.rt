@@ -1,11 +1,10 @@
 // The value of an insurance at a time, from the values of all sets of lives.
-ghost use Rattle.std.specs.Prelude.{◌≡◌, ℕ, ◌<◌, true};
+ghost use Rattle.std.specs.Prelude.{◌≡◌};
 ghost use Rattle.halo_status.specs.declared.pay.Kind.TheVariants.{Insurance};
 ghost use Rattle.halo_sums.specs.Masks.{has_bit};
 ghost use Rattle.halo_model.specs.Enclosed.{EnclosesOne};
-ghost use Rattle.halo_life.specs.PlainGroup.{survivors_in};
 ghost use Rattle.halo_compile.specs.ValidTask.{IsTask};
-ghost use Rattle.halo_compile.specs.OfTask.{pay_of_task};
+ghost use Rattle.halo_compile.specs.OfTask.{HaveSurvivorsAt, pay_of_task};
 ghost use Rattle.halo_insure.specs.OfTask.{HoldDuesAt, insured_basis};
 
 use halo_compile::{Task, between, greatest_factor};
@@ -24,8 +23,7 @@ pub fn value_at<const N: usize, const M: usize>(
     requires task { IsTask task.now }
     requires insurance { task.now.pay.now.kind ≡ Insurance }
     requires values { HoldDuesAt task.now t work.now }
-    requires alive { (i : ℕ) → i < N → has_bit alive i ≡ true →
-        0 < survivors_in task.now.group.now t i }
+    requires alive { HaveSurvivorsAt task.now t alive }
     ensures { EnclosesOne (insured_basis task.now) (pay_of_task task.now) t (has_bit alive) result }
 {
     // The proof sees here that the lives have rows, and that each year has a fraction.
