@@ -1,5 +1,6 @@
 // The bounds of a value of 1: the greatest factor of a pay, and an enclosure between bounds.
 ghost use Rattle.std.specs.Prelude.{◌≡◌, ℕ, ◌+◌, ◌*◌, ◌^◌, ◌≤◌, pos, ◌≤ℤ◌};
+ghost use Rattle.std.specs.Int.{int_max, int_min};
 ghost use Rattle.halo_num.specs.Ends.{HasWidth, IsWithin, fine};
 ghost use Rattle.halo_num.specs.Enclosure.{Encloses};
 ghost use Rattle.halo_status.specs.ValidPay.{HasValidVary};
@@ -29,6 +30,8 @@ pub fn between(total: Ival, least: u64, most: u64) -> Ival
     requires few { most ≤ 10 ^ 6 }
     requires meets_most { total.lo ≤ℤ pos (most * fine) }
     requires meets_least { pos (least * fine) ≤ℤ total.hi }
+    ensures lo { result.lo ≡ int_max total.lo (pos (least * fine)) }
+    ensures hi { result.hi ≡ int_min total.hi (pos (most * fine)) }
     ensures encloses { (num den : ℕ) → num ≤ most * den → least * den ≤ num →
         Encloses total (pos num) den → Encloses result (pos num) den }
     ensures narrow { (w : ℕ) → HasWidth total w → HasWidth result w }

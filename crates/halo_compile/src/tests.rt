@@ -1,7 +1,8 @@
 // Forms of two and three lives, worked by hand.
 ghost use Rattle.std.specs.Prelude.{◌≡◌, [], ◌∷◌, IfOk};
 
-use crate::{Form, Memory, compile};
+use crate::{Form, Memory, between, compile, greatest_factor};
+use halo_num::{Ival, ONE_IN_FINE_UNITS};
 use halo_status::{Kind, Mark, Members, Pay, Status, Vary};
 use std::alloc::Global;
 use std::process::Abort;
@@ -91,4 +92,20 @@ fn the_second_death_of_two(rt: HostRuntime) -> Result<(), Fail> {
     let mark = Mark { member: 0, rank: 2 };
     let pay = pay_on(Kind::Insurance, both, Some(mark));
     check(&rt, alloc, &pay, &[(0, 2, [0, 1, 0, -1, 0, 0, 0, 0])])
+}
+
+#[test]
+fn factors_of_ten_years(rt: HostRuntime) -> Result<(), Fail> {
+    assert_eq!(rt; greatest_factor(Vary::Level, 10), 1, "level");
+    assert_eq!(rt; greatest_factor(Vary::Increasing, 10), 11, "increasing");
+    assert_eq!(rt; greatest_factor(Vary::Decreasing(7), 10), 7, "decreasing");
+    Ok(())
+}
+
+#[test]
+fn three_thirds_are_at_most_one(rt: HostRuntime) -> Result<(), Fail> {
+    let value = between(Ival::ratio(1, 3).scale(3), 0, 1);
+    assert_eq!(rt; value.lo(), ONE_IN_FINE_UNITS - 1, "from");
+    assert_eq!(rt; value.hi(), ONE_IN_FINE_UNITS, "to");
+    Ok(())
 }
