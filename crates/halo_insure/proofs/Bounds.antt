@@ -1,5 +1,5 @@
 -- An insurance of 1 is worth from nothing to its greatest factor, where somebody of each life alive survives.
-use Rattle.std.proofs.Common.{◌≡◌, ℕ, ◌*◌, ◌-◌, ◌<◌, ◌≤◌, arith, refl, ap, sym, ◌∙◌, length, Bool, true, ◌^◌, subst}
+use Rattle.std.proofs.Common.{◌≡◌, ℕ, ◌*◌, ◌<◌, ◌≤◌, arith, refl, ap, sym, ◌∙◌, length, Bool, ◌^◌, subst}
 use Rattle.std.proofs.Math.Nat.{mul-pos}
 use Rattle.halo_sums.specs.Masks.{has_bit}
 use Rattle.halo_sums.specs.Sums.{numbers_from}
