@@ -1,4 +1,4 @@
-// The chances of three lives, worked by hand: the first in table n, the others in table m.
+// The chances of lives, worked by hand: of three in two short tables, and of two in a long one.
 ghost use Rattle.std.specs.Prelude.{◌≡◌, ◌<◌, IfOk};
 ghost use Rattle.halo_model.specs.FromTables.{HasRow};
 
@@ -76,6 +76,58 @@ fn lives(rt: HostRuntime) -> Result<(), Fail> {
         assert!(rt; life < 3 && k <= LAST_TIME);
         assert_chance(&rt, name, group.leave(life, k, causes), chance);
     }
+    Ok(())
+}
+
+// Of 100 alive at age 0 one dies each year.
+const LONG_TABLE: &[u8] = b"table,age,l,death\n\
+    n,0,100,1\nn,1,99,1\nn,2,98,1\nn,3,97,1\nn,4,96,1\nn,5,95,1\nn,6,94,1\nn,7,93,1\n\
+    n,8,92,1\nn,9,91,1\nn,10,90,1\nn,11,89,1\nn,12,88,1\nn,13,87,1\nn,14,86,1\nn,15,85,1\n\
+    n,16,84,1\nn,17,83,1\nn,18,82,1\nn,19,81,1\nn,20,80,1\nn,21,79,1\nn,22,78,1\nn,23,77,1\n\
+    n,24,76,1\nn,25,75,1\nn,26,74,1\nn,27,73,1\nn,28,72,1\nn,29,71,1\nn,30,70,1\nn,31,69,1\n\
+    n,32,68,1\nn,33,67,1\nn,34,66,1\nn,35,65,1\nn,36,64,1\nn,37,63,1\nn,38,62,1\nn,39,61,1\n\
+    n,40,60,1\nn,41,59,1\nn,42,58,1\nn,43,57,1\nn,44,56,1\nn,45,55,1\nn,46,54,1\nn,47,53,1\n\
+    n,48,52,1\nn,49,51,1\nn,50,50,1\nn,51,49,1\nn,52,48,1\nn,53,47,1\nn,54,46,1\nn,55,45,1\n\
+    n,56,44,1\nn,57,43,1\nn,58,42,1\nn,59,41,1\nn,60,40,1\nn,61,39,1\nn,62,38,1\nn,63,37,1\n\
+    n,64,36,1\nn,65,35,1\nn,66,34,1\nn,67,33,1\nn,68,32,1\nn,69,31,1\nn,70,30,1\nn,71,29,1\n\
+    n,72,28,1\nn,73,27,1\nn,74,26,1\nn,75,25,1\nn,76,24,1\nn,77,23,1\nn,78,22,1\nn,79,21,1\n\
+    n,80,20,1\nn,81,19,1\nn,82,18,1\nn,83,17,1\nn,84,16,1\nn,85,15,1\nn,86,14,1\nn,87,13,1\n\
+    n,88,12,1\nn,89,11,1\nn,90,10,1\nn,91,9,1\nn,92,8,1\nn,93,7,1\nn,94,6,1\nn,95,5,1\n\
+    n,96,4,1\nn,97,3,1\nn,98,2,1\nn,99,1,1\n";
+
+// The long table, which has rows at the ages 40 and 50.
+fn long_table(rt: &impl Abort, alloc: Global) -> Result<Tables, Fail>
+    ensures { IfOk result (λ tables. HasRow tables 0 40 × HasRow tables 0 50) }
+{
+    let tables = Tables::read(alloc, LONG_TABLE)?;
+    assert!(rt; tables.count() >= 1);
+    assert!(rt; tables.first_age(0) <= 40 && 50 <= tables.last_age(0));
+    Ok(tables)
+}
+
+// Of the first life 60 are alive at the start, and of the second 50.
+#[test]
+fn long_lives(rt: HostRuntime) -> Result<(), Fail> {
+    let tables = long_table(&rt, rt.alloc())?;
+    let lives = [Life { table: 0, age: 40 }, Life { table: 0, age: 50 }];
+    let group = Group::<2>::new(&tables, &lives, 0, 0b11);
+    let survivals = [
+        ("x at 30", 0, 30, 500),
+        ("y at 10", 1, 10, 800),
+        ("y at 49", 1, 49, 20),
+        ("y at 50", 1, 50, 0),
+    ];
+    for (name, life, t, chance) in survivals {
+        assert!(rt; life < 2 && t <= LAST_TIME);
+        assert_chance(&rt, name, group.survive(life, t), chance);
+    }
+    assert_chance(&rt, "y in year 20", group.leave(1, 20, None), 20);
+    let sixtieth = group.leave(0, 0, None);
+    assert_eq!(rt;
+        (sixtieth.lo(), sixtieth.hi()),
+        (16_666_666_666_666_666, 16_666_666_666_666_667),
+        "x in year 0"
+    );
     Ok(())
 }
 
