@@ -2,10 +2,9 @@
 use Rattle.std.proofs.Common.{◌≡◌, ℕ, ◌+◌, ◌-◌, ◌<◌, ◌≤◌, List, [], ◌∷◌, length, true, arith}
 use Rattle.std.proofs.lemmas.List.Elements.{All-get_or}
 use Rattle.halo_sums.specs.Masks.{has_bit}
-use Rattle.halo_table.specs.DecrementTable.{DecrementRow, TableFile, empty_table, first_age_of, survivors_at, table_of}
+use Rattle.halo_table.specs.DecrementTable.{DecrementRow, TableFile, empty_table, first_age_of, survivors_at, table_of, HasRow}
 use Rattle.halo_table.specs.Sound.{AreSoundRows, IsSound, IsSoundTable}
 use Rattle.halo_table.proofs.LookUps.{sound_row}
-use Rattle.halo_model.specs.FromTables.{HasRow}
 use Rattle.halo_model.specs.Horizon.{life_at}
 use Rattle.halo_life.specs.PlainGroup.{IsGroup, PlainGroup, survivors_in}
 

@@ -24,7 +24,7 @@ use Rattle.halo_model.specs.Outcome.{joint_survivors}
 use Rattle.halo_model.specs.Coefficient.{form}
 use Rattle.halo_model.specs.Counts.{form_weight, greatest_factor, measures_of, most_worth, size, width_count}
 use Rattle.halo_model.specs.Horizon.{horizon}
-use Rattle.halo_model.specs.Premium.{all_lives}
+use Rattle.halo_contract.specs.Premium.{all_lives}
 use Rattle.halo_model.specs.Segment.{Run, first_time, last_time_of_form}
 use Rattle.halo_model.specs.Backward.{above_zero, backward, below_zero, outside, paid_at}
 use Rattle.halo_model.specs.RunPart.{paid_to_set, times_of}

@@ -7,7 +7,8 @@ use Rattle.halo_status.specs.declared.pay.Kind.{Kind}
 use Rattle.halo_status.specs.declared.pay.Kind.TheVariants.{Insurance, Due, Immediate}
 use Rattle.halo_model.specs.Basis.{Basis}
 use Rattle.halo_model.specs.Counts.{Measures, greatest_factor, measures_of, most_worth}
-use Rattle.halo_model.specs.Order.{Ties, declared_order}
+use Rattle.halo_contract.specs.declared.ties.Ties.{Ties}
+use Rattle.halo_contract.specs.declared.ties.Ties.TheVariants.{Declared}
 use Rattle.halo_model.specs.Value.{denominator, numerator}
 use Rattle.halo_model.proofs.AnnuityBounds.{annuity-is-bounded, due-is-worth-one}
 use Rattle.halo_life.specs.PlainGroup.{IsGroup}
@@ -59,7 +60,7 @@ module _ {n m : ℕ} (task : Task n m) (is : IsTask task) (group : IsGroup n tas
 -- with one order of the lives there is a denominator where each life of a set has survivors
 pub some-denominator : {n m : ℕ} (task : Task n m) → IsGroup n task.group.now → IsInterest task.interest.now
     → (t alive : ℕ)
-    → HaveSurvivorsAt task t alive → 0 < denominator (basis_of_task task declared_order) t (has_bit alive)
+    → HaveSurvivorsAt task t alive → 0 < denominator (basis_of_task task Declared) t (has_bit alive)
 unfolding denominator
 some-denominator {n} {m} task group interest t alive there = positive-both 1 _ (omega arith) (positive-both _ _
     (survivors-there task group t alive there)

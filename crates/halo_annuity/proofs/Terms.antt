@@ -15,12 +15,12 @@ use Rattle.halo_status.specs.declared.pay.Kind.TheVariants.{Insurance}
 use Rattle.halo_table.specs.DecrementTable.{survivors_at}
 use Rattle.halo_model.specs.Basis.{accumulated, taken}
 use Rattle.halo_model.specs.Outcome.{joint_survivors}
-use Rattle.halo_model.specs.Order.{Ties}
+use Rattle.halo_contract.specs.declared.ties.Ties.{Ties}
 use Rattle.halo_model.specs.Coefficient.{form}
 use Rattle.halo_model.specs.Counts.{measures_of, most_worth, width_count}
 use Rattle.halo_model.specs.FromTables.{lives_of}
 use Rattle.halo_model.specs.Horizon.{horizon, life_at}
-use Rattle.halo_model.specs.Premium.{all_lives}
+use Rattle.halo_contract.specs.Premium.{all_lives}
 use Rattle.halo_model.specs.Segment.{Run, last_time_of_form}
 use Rattle.halo_model.specs.Value.{denominator}
 use Rattle.halo_model.specs.Backward.{above_zero, backward, below_zero, outside}

@@ -17,7 +17,8 @@ use Rattle.halo_status.specs.declared.pay.Kind.TheVariants.{Insurance, Due, Imme
 use Rattle.halo_model.specs.Life.{AreLives}
 use Rattle.halo_model.specs.Outcome.{joint_survivors}
 use Rattle.halo_model.specs.Basis.{Basis, accumulated, taken}
-use Rattle.halo_model.specs.Order.{Ties, all_orders, declared_order}
+use Rattle.halo_contract.specs.declared.ties.Ties.{Ties}
+use Rattle.halo_contract.specs.declared.ties.Ties.TheVariants.{Even, Declared}
 use Rattle.halo_model.specs.Coefficient.{form}
 use Rattle.halo_model.specs.Counts.{form_weight, greatest_factor, measures_of, order_share, width_count}
 use Rattle.halo_model.specs.Horizon.{horizon}
@@ -150,10 +151,10 @@ module _ (b : Basis) (pay : PlainPay) (T n years : ℕ)
 
 pub share-of-ties : (ties : Ties) (kind : Kind) (named : ℕ) → kind ≢ Insurance → order_share ties kind named ≡ 1
 share-of-ties ties Insurance named annual = absurd (annual refl)
-share-of-ties declared_order Due named annual = refl
-share-of-ties all_orders Due named annual = refl
-share-of-ties declared_order Immediate named annual = refl
-share-of-ties all_orders Immediate named annual = refl
+share-of-ties Declared Due named annual = refl
+share-of-ties Even Due named annual = refl
+share-of-ties Declared Immediate named annual = refl
+share-of-ties Even Immediate named annual = refl
 
 -- the total encloses the value of the annuity
 pub total-encloses : (b : Basis) → AreLives b.lives

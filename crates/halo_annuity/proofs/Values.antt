@@ -8,7 +8,8 @@ use Rattle.halo_status.specs.Pay.{pay_of}
 use Rattle.halo_status.specs.declared.pay.Kind.TheVariants.{Insurance}
 use Rattle.halo_model.specs.Counts.{measures_of, width_count}
 use Rattle.halo_model.specs.FromTables.{lives_of}
-use Rattle.halo_model.specs.Order.{Ties, declared_order}
+use Rattle.halo_contract.specs.declared.ties.Ties.{Ties}
+use Rattle.halo_contract.specs.declared.ties.Ties.TheVariants.{Declared}
 use Rattle.halo_model.specs.Segment.{last_time_of_form}
 use Rattle.halo_model.specs.Value.{denominator, numerator}
 use Rattle.halo_life.specs.Lists.{Lists}
@@ -37,9 +38,9 @@ module _ {n m : ℕ} (task : Task n m) (is : IsTask task) (group : IsGroup n tas
   -- they are small numbers
   pub held-modest : AreModest m lists
   held-modest = modest-same (2 ^ n) m lists lists is.sets refl refl
-      (values-modest (basis_of_task task declared_order) (pay_of_task task) refl is.valid.vary t n group.few lists t
+      (values-modest (basis_of_task task Declared) (pay_of_task task) refl is.valid.vary t n group.few lists t
       (suc (last_of_task task) - t)
-      (omega (arith, last-in task.pay.now.kind task.horizon, is.horizon_in, in_time)) (held declared_order))
+      (omega (arith, last-in task.pay.now.kind task.horizon, is.horizon_in, in_time)) (held Declared))
 
   -- and their total over the subsets of the living is the value of the annuity
   pub held-annuity : task.pay.now.kind ≢ Insurance → IsInterest task.interest.now

@@ -9,7 +9,7 @@ use Rattle.halo_status.specs.View.{is_on}
 use Rattle.halo_status.specs.declared.pay.Kind.TheVariants.{Due}
 use Rattle.halo_status.specs.declared.pay.Vary.TheVariants.{Level}
 use Rattle.halo_status.specs.declared.view.View.TheVariants.{Due as DueView}
-use Rattle.halo_model.specs.Order.{Ties}
+use Rattle.halo_contract.specs.declared.ties.Ties.{Ties}
 use Rattle.halo_model.specs.Value.{denominator, numerator}
 use Rattle.halo_life.specs.Lists.{Lists}
 use Rattle.halo_compile.specs.declared.task.Task.{Task}

@@ -3,7 +3,7 @@
 use Rattle.std.specs.Prelude.{ℕ, ◌*◌, neg_ℤ, pos}
 use Rattle.halo_num.specs.Ends.{Ends, HasWidth, IsWithin, fine}
 use Rattle.halo_model.specs.Counts.{Measures, measures_of, most_worth, width_count}
-use Rattle.halo_model.specs.Order.{Ties}
+use Rattle.halo_contract.specs.declared.ties.Ties.{Ties}
 use Rattle.halo_compile.specs.declared.task.Task.{Task}
 use Rattle.halo_compile.specs.OfTask.{basis_of_task, pay_of_task}
 

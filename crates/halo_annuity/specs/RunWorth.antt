@@ -7,10 +7,10 @@ use Rattle.halo_num.specs.Enclosure.{Encloses}
 use Rattle.halo_status.specs.Pay.{PlainPay}
 use Rattle.halo_model.specs.Basis.{Basis}
 use Rattle.halo_model.specs.Outcome.{joint_survivors}
-use Rattle.halo_model.specs.Order.{Ties}
+use Rattle.halo_contract.specs.declared.ties.Ties.{Ties}
 use Rattle.halo_model.specs.Segment.{Run}
 use Rattle.halo_model.specs.Backward.{paid_at}
-use Rattle.halo_model.specs.Premium.{all_lives}
+use Rattle.halo_contract.specs.Premium.{all_lives}
 use Rattle.halo_model.specs.RunPart.{run_part}
 use Rattle.halo_model.specs.Value.{denominator}
 use Rattle.halo_compile.specs.Form.{run_of, segment_at}

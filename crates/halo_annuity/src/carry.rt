@@ -1,9 +1,8 @@
 // A year back: what the values of the sets of lives are worth a year earlier.
-ghost use Rattle.std.specs.Prelude.{◌≡◌, ◌≢◌, ℕ, suc, ◌+◌, ◌*◌, ◌^◌, ◌<◌, ◌≤◌};
-ghost use Rattle.std.specs.Prelude.{cond, true, false, pos, ◌≤ℤ◌};
+ghost use Rattle.std.specs.Prelude.{◌≡◌, ◌≢◌, ℕ, suc, ◌+◌, ◌*◌, ◌^◌, ◌<◌, ◌≤◌, cond, true, false, pos, ◌≤ℤ◌};
 ghost use Rattle.halo_sums.specs.Sums.{numbers_from, sum_over};
 ghost use Rattle.halo_num.specs.Ends.{IsWithin, fine};
-ghost use Rattle.halo_model.specs.Order.{Ties};
+ghost use Rattle.halo_contract.specs.declared.ties.Ties.{Ties};
 ghost use Rattle.halo_life.specs.Lists.{entry, nothing};
 ghost use Rattle.halo_life.specs.Total.{AreModest, is_within};
 ghost use Rattle.halo_compile.specs.ValidTask.{IsTask};

@@ -4,7 +4,7 @@ ghost use Rattle.halo_sums.specs.Masks.{bits, has_bit};
 ghost use Rattle.halo_sums.specs.Sets.{size_of};
 ghost use Rattle.halo_num.specs.Chance.{EnclosesChance};
 ghost use Rattle.halo_num.specs.Ends.{IsWithin, fine};
-ghost use Rattle.halo_model.specs.Order.{Ties};
+ghost use Rattle.halo_contract.specs.declared.ties.Ties.{Ties};
 ghost use Rattle.halo_life.specs.PlainGroup.{started, surviving};
 ghost use Rattle.halo_annuity.specs.SetProduct.{product_in};
 ghost use Rattle.halo_compile.specs.ValidTask.{IsTask};

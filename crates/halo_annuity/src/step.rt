@@ -1,7 +1,7 @@
 // The pass year by year: all sets of lives at the horizon, and a year back.
 ghost use Rattle.std.specs.Prelude.{◌≡◌, ◌≢◌, ℕ, suc, ◌+◌, ◌*◌, ◌^◌, ◌<◌, ◌≤◌};
 ghost use Rattle.halo_status.specs.declared.pay.Kind.TheVariants.{Due, Immediate, Insurance};
-ghost use Rattle.halo_model.specs.Order.{Ties};
+ghost use Rattle.halo_contract.specs.declared.ties.Ties.{Ties};
 ghost use Rattle.halo_life.specs.Total.{AreModest};
 ghost use Rattle.halo_compile.specs.ValidTask.{IsTask};
 ghost use Rattle.halo_annuity.specs.AtTime.{HoldAt};

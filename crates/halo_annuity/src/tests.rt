@@ -6,7 +6,7 @@ ghost use Rattle.halo_status.specs.Pay.{pay_of};
 ghost use Rattle.halo_status.specs.StatusTree.{tree_of};
 ghost use Rattle.halo_status.specs.ValidPay.{HasLength, HasRank, IsValidPay};
 ghost use Rattle.halo_status.specs.declared.pay.Kind.TheVariants.{Insurance};
-ghost use Rattle.halo_model.specs.FromTables.{HasRow};
+ghost use Rattle.halo_table.specs.DecrementTable.{HasRow};
 ghost use Rattle.halo_model.specs.Horizon.{HasShortTerms};
 
 use crate::{annuity, annuity_all, term_value};

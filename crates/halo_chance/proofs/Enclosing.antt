@@ -10,7 +10,7 @@ use Rattle.halo_sums.proofs.Integers.{le_of_mul_pos, le_trans, mul_le_pos}
 use Rattle.halo_status.specs.Tree.{Tree, Trees, life, term, joint, last, at_least, exactly, after, none, more}
 use Rattle.halo_status.specs.Naming.{any_names_life, names_life}
 use Rattle.halo_model.specs.ByTree.{weight_of, weight_of_all, weight_of_count, weight_of_none, whole_in, whole_of}
-use Rattle.halo_model.proofs.Agreement.{or-left, or-right, same}
+use Rattle.halo_status.proofs.Agreement.{or-left, or-right, same}
 use Rattle.halo_chance.specs.Enclosed.{AreEnclosed, EnclosesMembers, EnclosesTree, entry_at, spread, spread_in}
 use Rattle.halo_chance.specs.Table.{passes_at}
 

@@ -13,7 +13,7 @@ use Rattle.halo_status.specs.Naming.{any_names_life, names_life}
 use Rattle.halo_status.specs.StatusTree.{tree_of, trees_in}
 use Rattle.halo_model.specs.ByTree.{weight_of, weight_of_count, whole_in, whole_of}
 use Rattle.halo_model.specs.PartsByTree.{others_of, waiting, waiting_member}
-use Rattle.halo_model.proofs.Agreement.{or-left, or-right}
+use Rattle.halo_status.proofs.Agreement.{or-left, or-right}
 use Rattle.halo_chance.specs.Enclosed.{AreEnclosed, EnclosesMembers, EnclosesTree, spread, spread_in}
 use Rattle.halo_chance.specs.Table.{passes_at}
 use Rattle.halo_chance.proofs.Enclosing.{IsProduct, narrower}

@@ -9,8 +9,8 @@ use Rattle.halo_status.specs.Tree.{none, more}
 use Rattle.halo_status.specs.StatusTree.{tree_of, trees_in}
 use Rattle.halo_status.proofs.Lists.{HasMembers, names_life-list}
 use Rattle.halo_status.proofs.Shapes.{tree_of-After, tree_of-Life}
-use Rattle.halo_model.proofs.Agreement.{or-left, or-right, same}
-use Rattle.halo_model.proofs.Longest.{names_life-at, split_at}
+use Rattle.halo_status.proofs.Agreement.{or-left, or-right, same}
+use Rattle.halo_status.proofs.NamedMembers.{names_life-at, split_at}
 
 -- no members are left behind the last one
 pub drop-all : (ms : List Status) (n : ℕ) → n ≡ length ms → trees_in (drop n ms) ≡ none

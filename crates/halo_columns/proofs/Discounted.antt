@@ -3,10 +3,9 @@ use Rattle.std.proofs.Common.{◌≡◌, ℕ, ◌+◌, ◌*◌, ◌-◌, ◌≤�
 use Rattle.halo_num.specs.Ends.{Ends, HasWidth, IsWithin}
 use Rattle.halo_num.specs.Enclosure.{Encloses}
 use Rattle.halo_interest.specs.Powers.{IsPower}
-use Rattle.halo_table.specs.DecrementTable.{TableFile, survivors_at}
+use Rattle.halo_table.specs.DecrementTable.{TableFile, survivors_at, HasRow}
 use Rattle.halo_table.specs.Sound.{IsSound}
 use Rattle.halo_model.specs.Columns.{ColumnBasis, column_denominator, discount_power, end_age, leavers_at_age, years_of}
-use Rattle.halo_model.specs.FromTables.{HasRow}
 use Rattle.halo_model.proofs.Discounts.{discount-encloses}
 use Rattle.halo_model.proofs.FromTables.{life_of-IsLife}
 use Rattle.halo_columns.specs.declared.entry.TheConstants.{GREATEST_DISCOUNTED}

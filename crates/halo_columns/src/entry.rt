@@ -4,7 +4,7 @@ ghost use Rattle.halo_num.specs.Ends.{fine, HasWidth, IsWithin};
 ghost use Rattle.halo_num.specs.Enclosure.{Encloses};
 ghost use Rattle.halo_interest.specs.Powers.{ArePowers};
 ghost use Rattle.halo_model.specs.Columns.{leavers_at_age};
-ghost use Rattle.halo_model.specs.FromTables.{HasRow};
+ghost use Rattle.halo_table.specs.DecrementTable.{HasRow};
 ghost use Rattle.halo_columns.specs.Entries.{IsEntry, IsKnown, counted, counted_width, columns_of};
 
 use halo_interest::Powers;

@@ -5,9 +5,9 @@ use Rattle.std.proofs.Math.Nat.{mul-pos, pow-le-pow_right}
 use Rattle.std.proofs.lemmas.List.{length-map}
 use Rattle.std.proofs.lemmas.List.Elements.{All-from_get_or}
 use Rattle.halo_sums.specs.Sums.{numbers_from, product_over}
-use Rattle.halo_table.specs.DecrementTable.{TableFile, survivors_at}
+use Rattle.halo_table.specs.DecrementTable.{TableFile, survivors_at, HasRow}
 use Rattle.halo_table.specs.declared.lives.Life.{Life}
-use Rattle.halo_model.specs.FromTables.{HasRow, life_of, lives_of}
+use Rattle.halo_model.specs.FromTables.{life_of, lives_of}
 use Rattle.halo_model.specs.Horizon.{life_at}
 use Rattle.halo_model.specs.Life.{AreLives, after_first}
 use Rattle.halo_model.specs.Outcome.{joint_survivors}
@@ -17,7 +17,7 @@ use Rattle.halo_sums.specs.Masks.{has_bit}
 use Rattle.halo_interest.specs.Rates.{IsInterest, rate_of}
 use Rattle.halo_interest.proofs.InForce.{in_force_is}
 use Rattle.halo_model.specs.Basis.{accumulated}
-use Rattle.halo_model.specs.Order.{declared_order}
+use Rattle.halo_contract.specs.declared.ties.Ties.TheVariants.{Declared}
 use Rattle.halo_compile.specs.OfTask.{HaveSurvivorsAt, basis_of_task}
 use Rattle.halo_compile.specs.declared.task.Task.{Task}
 
@@ -64,7 +64,7 @@ module _ {n m : ℕ} (task : Task n m) where
 
   -- 1 is worth something with the interest of the task
   pub interest-there : IsInterest task.interest.now → (t : ℕ)
-      → 0 < accumulated (basis_of_task task declared_order) t
+      → 0 < accumulated (basis_of_task task Declared) t
   interest-there interest t = some-interest
       (λ k. (rate_of task.interest.now k).p) (λ k. (rate_of task.interest.now k).q)
       (λ k. (in_force_is task.interest.now interest k).q_from) (200 - t) t

@@ -14,7 +14,7 @@ use Rattle.halo_status.specs.declared.pay.Kind.{Kind}
 use Rattle.halo_status.specs.declared.pay.Kind.TheVariants.{Insurance, Due as DuePay, Immediate as ImmediatePay}
 use Rattle.halo_model.specs.Coefficient.{existence, exists_by_mark, view_of, waits_at_rank}
 use Rattle.halo_model.specs.Payment.{members_of}
-use Rattle.halo_model.proofs.Agreement.{agree, each-agree}
+use Rattle.halo_status.proofs.Agreement.{agree, each-agree}
 use Rattle.halo_compile.specs.Terms.{last_term}
 
 -- a term of another length is on as a year before

@@ -4,8 +4,8 @@ use Rattle.halo_sums.specs.Masks.{has_bit}
 use Rattle.halo_status.specs.Pay.{PlainPay, pay_of}
 use Rattle.halo_model.specs.Basis.{Basis}
 use Rattle.halo_model.specs.Enclosed.{of_one}
-use Rattle.halo_model.specs.Order.{Ties}
-use Rattle.halo_life.specs.Basis.{basis_of}
+use Rattle.halo_contract.specs.declared.ties.Ties.{Ties}
+use Rattle.halo_model.specs.ContractBasis.{basis_of}
 use Rattle.halo_life.specs.PlainGroup.{survivors_in}
 use Rattle.halo_compile.specs.declared.task.Task.{Task}
 

@@ -14,7 +14,9 @@ use Rattle.halo_model.specs.Chance.{IsValidInsurance}
 use Rattle.halo_model.specs.Counts.{Measures, greatest_factor, measures_of, most_worth}
 use Rattle.halo_model.specs.Horizon.{horizon}
 use Rattle.halo_model.specs.Life.{AreLives}
-use Rattle.halo_model.specs.Order.{Ties, all_orders, declared_order, orders, orders_taken}
+use Rattle.halo_model.specs.Order.{orders, orders_taken}
+use Rattle.halo_contract.specs.declared.ties.Ties.{Ties}
+use Rattle.halo_contract.specs.declared.ties.Ties.TheVariants.{Even, Declared}
 use Rattle.halo_model.specs.PartLaws.{EndBy}
 use Rattle.halo_model.specs.Value.{denominator, numerator}
 use Rattle.halo_model.proofs.Bounded.{insurance-is-bounded}
@@ -35,8 +37,8 @@ use Rattle.halo_insure.proofs.Total.{sets-enclose-value}
 
 -- there is an order of the lives
 some-orders : (ties : Ties) (n : ℕ) → 0 < length (orders_taken ties n)
-some-orders declared_order n = omega arith
-some-orders all_orders n =
+some-orders Declared n = omega arith
+some-orders Even n =
     let count = orders-count (numbers_from 0 n) 1 in
     let each = sum_over-const (orders (numbers_from 0 n)) 1 in
     omega (arith, count, each, factorial-some (length (numbers_from 0 n)))

@@ -20,7 +20,8 @@ use Rattle.halo_model.specs.Basis.{Basis}
 use Rattle.halo_model.specs.Chance.{IsValidInsurance}
 use Rattle.halo_model.specs.Coefficient.{form}
 use Rattle.halo_model.specs.Counts.{form_weight, greatest, greatest_factor, lives_named, order_share, size, width_count}
-use Rattle.halo_model.specs.Order.{Ties, all_orders, declared_order}
+use Rattle.halo_contract.specs.declared.ties.Ties.{Ties}
+use Rattle.halo_contract.specs.declared.ties.Ties.TheVariants.{Even, Declared}
 use Rattle.halo_model.specs.Horizon.{horizon}
 use Rattle.halo_model.specs.Payment.{factor, payment}
 use Rattle.halo_model.specs.Segment.{coefficients_at, first_time}
@@ -161,14 +162,14 @@ room m n H h G f share named some years once =
 
 -- each order of the lives has its share
 some-share : (ties : Ties) (kind : Kind) (named : ℕ) → 1 ≤ order_share ties kind named
-some-share declared_order kind named = omega arith
-some-share all_orders Insurance named = pow-pos (named + 1)
+some-share Declared kind named = omega arith
+some-share Even Insurance named = pow-pos (named + 1)
   where
     pow-pos : (n : ℕ) → 1 ≤ 2 ^ n
     pow-pos zero = rw (pow-zero 2) (omega arith)
     pow-pos (suc n) = rw (pow-suc 2 n) (omega (arith, pow-pos n))
-some-share all_orders Due named = omega arith
-some-share all_orders Immediate named = omega arith
+some-share Even Due named = omega arith
+some-share Even Immediate named = omega arith
 
 module _
     (b : Basis) (pay : PlainPay) (is : IsValidInsurance pay) (one : pay.amount ≡ 1) (events : SomeEvents) (T : ℕ) where

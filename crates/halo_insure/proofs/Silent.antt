@@ -13,7 +13,7 @@ use Rattle.halo_status.specs.declared.pay.Mark.{Mark}
 use Rattle.halo_model.specs.Coefficient.{existence, exists_by_mark, form, waits_at_rank}
 use Rattle.halo_model.specs.Payment.{members_of}
 use Rattle.halo_model.specs.Counts.{lives_named}
-use Rattle.halo_model.proofs.Agreement.{agree, each-agree}
+use Rattle.halo_status.proofs.Agreement.{agree, each-agree}
 use Rattle.halo_compile.proofs.Named.{count-next, count_named}
 
 difference-none : (y z : ℤ) → y ≡ z → y -ℤ z ≡ pos 0

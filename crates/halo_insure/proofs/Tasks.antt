@@ -22,7 +22,8 @@ use Rattle.halo_status.specs.Pay.{PlainPay, pay_of}
 use Rattle.halo_status.specs.declared.pay.Kind.TheVariants.{Insurance}
 use Rattle.halo_model.specs.Chance.{IsValidInsurance}
 use Rattle.halo_model.specs.Coefficient.{form}
-use Rattle.halo_model.specs.Order.{Ties, all_orders, declared_order}
+use Rattle.halo_contract.specs.declared.ties.Ties.{Ties}
+use Rattle.halo_contract.specs.declared.ties.Ties.TheVariants.{Even, Declared}
 use Rattle.halo_poly.specs.Poly.{coefficient_at}
 use Rattle.halo_model.specs.FromTables.{lives_of}
 use Rattle.halo_model.specs.Life.{AreLives}
@@ -77,8 +78,8 @@ pub named-few : (n named : ℕ) → size_of (bits n named) ≤ n
 named-few n named = omega (arith, size-within (bits n named), length-bits n named)
 
 pub products-most : (ties : Ties) (few n : ℕ) → few ≤ n → products_of_leavings ties few ≤ products_of_leavings ties n
-products-most declared_order few n h = pow-le-pow_right (omega arith) h
-products-most all_orders few n h = mul-le few (2 ^ few) n (2 ^ n) h (pow-le-pow_right (omega arith) h)
+products-most Declared few n h = pow-le-pow_right (omega arith) h
+products-most Even few n h = mul-le few (2 ^ few) n (2 ^ n) h (pow-le-pow_right (omega arith) h)
 
 -- a table ends by age 150
 no-table : (tables : List DecrementTable) (i : ℕ) → length tables ≤ i → get_or tables i empty_table ≡ empty_table

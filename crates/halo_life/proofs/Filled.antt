@@ -8,7 +8,9 @@ use Rattle.halo_sums.specs.Sums.{sum_over}
 use Rattle.halo_sums.proofs.Sums.{sum_over-none}
 use Rattle.halo_num.specs.Ends.{Ends, fine}
 use Rattle.halo_model.specs.EvenTies.{YearNumbers, first_leaving, lives_in}
-use Rattle.halo_model.specs.Order.{Ties, all_orders, declared_order, orders_taken, rank_in}
+use Rattle.halo_model.specs.Order.{orders_taken, rank_in}
+use Rattle.halo_contract.specs.declared.ties.Ties.{Ties}
+use Rattle.halo_contract.specs.declared.ties.Ties.TheVariants.{Even, Declared}
 use Rattle.halo_life.specs.Lists.{entry}
 use Rattle.halo_life.specs.PlainGroup.{is_even}
 use Rattle.halo_life.specs.Total.{is_within}
@@ -73,8 +75,8 @@ module _ (IsChance : ℕ → Ends → Type 0) (named set : ℕ) where
 
 -- the products that all sets take, where each takes at most one, or one for each named life
 pub products-for-all : (ties : Ties) (n : ℕ) → cond (is_even ties) n 1 * 2 ^ n ≡ products_of_leavings ties n
-products-for-all declared_order n = omega arith
-products-for-all all_orders n = refl
+products-for-all Declared n = omega arith
+products-for-all Even n = refl
 
 pub most-for-one : (even : Bool) (size all : ℕ) → size ≤ all → cond even size 1 ≤ cond even all 1
 most-for-one true size all h = h

@@ -14,7 +14,9 @@ use Rattle.halo_sums.proofs.Numbers.{numbers_from-split}
 use Rattle.halo_num.specs.Ends.{Ends, HasWidth, fine}
 use Rattle.halo_num.specs.Enclosure.{Encloses}
 use Rattle.halo_num.proofs.Enclosures.{encloses_reduced}
-use Rattle.halo_model.specs.Order.{Ties, all_orders, declared_order, orders_taken}
+use Rattle.halo_model.specs.Order.{orders_taken}
+use Rattle.halo_contract.specs.declared.ties.Ties.{Ties}
+use Rattle.halo_contract.specs.declared.ties.Ties.TheVariants.{Even, Declared}
 use Rattle.halo_model.specs.EvenTies.{YearNumbers, lives_in}
 use Rattle.halo_life.specs.PlainGroup.{is_even}
 use Rattle.halo_life.specs.YearOfSets.{leavings_of_set}
@@ -26,13 +28,13 @@ use Rattle.halo_life.proofs.Sums.{sum_over-numbers_push}
 use Rattle.halo_life.proofs.Within.{bit-of-set, inside}
 
 -- the rule for ties, by whether it is the even one
-pub is-even : (ties : Ties) → is_even ties ≡ true → ties ≡ all_orders
-is-even all_orders e = refl
-is-even declared_order e = absurd (cc)
+pub is-even : (ties : Ties) → is_even ties ≡ true → ties ≡ Even
+is-even Even e = refl
+is-even Declared e = absurd (cc)
 
-pub is-declared : (ties : Ties) → is_even ties ≡ false → ties ≡ declared_order
-is-declared declared_order e = refl
-is-declared all_orders e = absurd (cc)
+pub is-declared : (ties : Ties) → is_even ties ≡ false → ties ≡ Declared
+is-declared Declared e = refl
+is-declared Even e = absurd (cc)
 
 -- a set that is not empty has a life
 pub size-some : (n mask : ℕ) → 0 < mask → mask < 2 ^ n → 1 ≤ size_of (bits n mask)
@@ -64,20 +66,20 @@ module _ (n : ℕ) (y : YearNumbers) (mask : ℕ) where
   -- the chance of a set is that of its first life, in the declared order
   pub in-order-enclosed : ((i : ℕ) → y.leaving i + y.staying i ≤ y.alive i)
       → (b : ℕ) → b < n → has_bit mask b ≡ true → ((i : ℕ) → has_bit mask i ≡ true → b ≤ i) → 1 ≤ size_of (bits n mask)
-      → (r t : Ends) → EnclosesFirst declared_order n y mask b r → IsCut r t → EnclosesLeaving declared_order n y mask t
+      → (r t : Ends) → EnclosesFirst Declared n y mask b r → IsCut r t → EnclosesLeaving Declared n y mask t
   in-order-enclosed parts b low there lowest some r t first cut =
       clamped-chance _ _ r t (4 * size_of (bits n mask)) cut.lo cut.hi first.within.low
       (record { near = omega (arith, ints, first.narrow.near) })
-      (rw is first.encloses) (leavings-most n y parts declared_order S (λ i h. inside n mask i h)) cut.encloses
+      (rw is first.encloses) (leavings-most n y parts Declared S (λ i h. inside n mask i h)) cut.encloses
     where
-      is : leavings_of_set declared_order n y S ≡ weight_as_first declared_order n y S b
+      is : leavings_of_set Declared n y S ≡ weight_as_first Declared n y S b
       is = in-declared-order n y S b (has-bit n mask b low true there) low (λ i h. lowest i (bit-of-set n mask i h))
 
   -- over the first `lives` of n lives, what those of the set give to the sum
   pub record IsSumTo (lives : ℕ) (sum : Ends) : Type 0 where
     pub encloses : Encloses sum
-        (pos (sum_over (numbers_from 0 lives) (λ b. cond (S b) (weight_as_first all_orders n y S b) 0)))
-        (length (orders_taken all_orders n) * product_over (lives_in n S) y.alive)
+        (pos (sum_over (numbers_from 0 lives) (λ b. cond (S b) (weight_as_first Even n y S b) 0)))
+        (length (orders_taken Even n) * product_over (lives_in n S) y.alive)
     pub narrow : HasWidth sum (length (filter S (numbers_from 0 lives)) * (4 * (size_of (bits n mask) - 1) + 3))
 
   count-next : (l : ℕ) (is : Bool)
@@ -102,12 +104,12 @@ module _ (n : ℕ) (y : YearNumbers) (mask : ℕ) where
   }
 
   next : (l : ℕ) (is : Bool)
-      → S l ≡ is → sum_over (numbers_from 0 (l + 1)) (λ b. cond (S b) (weight_as_first all_orders n y S b) 0)
-      ≡ sum_over (numbers_from 0 l) (λ b. cond (S b) (weight_as_first all_orders n y S b) 0)
-      + cond is (weight_as_first all_orders n y S l) 0
-  next l is e = sum_over-numbers_push l (λ b. cond (S b) (weight_as_first all_orders n y S b) 0)
-      ∙ ap (λ t. sum_over (numbers_from 0 l) (λ b. cond (S b) (weight_as_first all_orders n y S b) 0)
-      + cond t (weight_as_first all_orders n y S l) 0) e
+      → S l ≡ is → sum_over (numbers_from 0 (l + 1)) (λ b. cond (S b) (weight_as_first Even n y S b) 0)
+      ≡ sum_over (numbers_from 0 l) (λ b. cond (S b) (weight_as_first Even n y S b) 0)
+      + cond is (weight_as_first Even n y S l) 0
+  next l is e = sum_over-numbers_push l (λ b. cond (S b) (weight_as_first Even n y S b) 0)
+      ∙ ap (λ t. sum_over (numbers_from 0 l) (λ b. cond (S b) (weight_as_first Even n y S b) 0)
+      + cond t (weight_as_first Even n y S l) 0) e
 
   -- a life that is not in the set gives nothing
   pub sum-without : (l : ℕ) (sum : Ends) → l < n → has_bit mask l ≡ false → IsSumTo l sum → IsSumTo (l + 1) sum
@@ -122,7 +124,7 @@ module _ (n : ℕ) (y : YearNumbers) (mask : ℕ) where
       plus k = omega arith
 
   -- a life of the set gives its share as the first
-  pub sum-with : (l : ℕ) (sum r more : Ends) → l < n → has_bit mask l ≡ true → EnclosesFirst all_orders n y mask l r
+  pub sum-with : (l : ℕ) (sum r more : Ends) → l < n → has_bit mask l ≡ true → EnclosesFirst Even n y mask l r
       → ((m k : ℤ) (d : ℕ) → Encloses sum m d → Encloses r k d → Encloses more (m +ℤ k) d)
       → ((v w : ℕ) → HasWidth sum v → HasWidth r w → HasWidth more (v + w))
       → IsSumTo l sum → IsSumTo (l + 1) more
@@ -139,19 +141,19 @@ module _ (n : ℕ) (y : YearNumbers) (mask : ℕ) where
       → (count : ℕ) → count ≡ length (filter S (numbers_from 0 n)) → 1 ≤ count → (sum r t : Ends) → IsSumTo n sum
       → pos 0 ≤ℤ r.lo → ((m d : ℕ) → Encloses sum (pos m) d → Encloses r (pos m) (d * count))
       → ((w : ℕ) → HasWidth sum (count * w) → HasWidth r (w + 1))
-      → IsCut r t → EnclosesLeaving all_orders n y mask t
+      → IsCut r t → EnclosesLeaving Even n y mask t
   evenly-enclosed parts count is some sum r t part from divided narrow cut =
       clamped-chance _ _ r t (4 * size_of (bits n mask)) cut.lo cut.hi from
       (let w = narrow (4 * (size_of (bits n mask) - 1) + 3) (rw is part.narrow) in
       record { near = omega (arith, ints, w.near, size) })
-      (encloses_reduced r (pos (leavings_of_set all_orders n y S))
-      (length (orders_taken all_orders n) * product_over (lives_in n S) y.alive) count (omega arith)
+      (encloses_reduced r (pos (leavings_of_set Even n y S))
+      (length (orders_taken Even n) * product_over (lives_in n S) y.alive) count (omega arith)
       (rw all at (divided _ _ part.encloses)))
-      (leavings-most n y parts all_orders S (λ i h. inside n mask i h)) cut.encloses
+      (leavings-most n y parts Even S (λ i h. inside n mask i h)) cut.encloses
     where
       size : count ≡ size_of (bits n mask)
       size = is ∙ size-of-lives n mask
 
-      all : sum_over (numbers_from 0 n) (λ b. cond (S b) (weight_as_first all_orders n y S b) 0)
-          ≡ leavings_of_set all_orders n y S * count
-      all = sym (each-first n y S) ∙ ap (λ k. k * leavings_of_set all_orders n y S) (sym is) ∙ omega arith
+      all : sum_over (numbers_from 0 n) (λ b. cond (S b) (weight_as_first Even n y S b) 0)
+          ≡ leavings_of_set Even n y S * count
+      all = sym (each-first n y S) ∙ ap (λ k. k * leavings_of_set Even n y S) (sym is) ∙ omega arith

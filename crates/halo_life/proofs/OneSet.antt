@@ -13,7 +13,8 @@ use Rattle.halo_num.specs.Enclosure.{Encloses}
 use Rattle.halo_num.specs.Chance.{EnclosesChance}
 use Rattle.halo_num.specs.Rounding.{IsFloor}
 use Rattle.halo_model.specs.Life.{after_first}
-use Rattle.halo_model.specs.Order.{Ties, orders_taken}
+use Rattle.halo_model.specs.Order.{orders_taken}
+use Rattle.halo_contract.specs.declared.ties.Ties.{Ties}
 use Rattle.halo_model.specs.EvenTies.{YearNumbers, lives_in, without}
 use Rattle.halo_model.proofs.EvenTies.{length-with, taken-out}
 use Rattle.halo_life.specs.Lists.{entry}

@@ -8,7 +8,9 @@ use Rattle.std.proofs.lemmas.Nat.{mul-le}
 use Rattle.std.proofs.lemmas.List.Elements.{All-head, All-tail}
 use Rattle.halo_sums.specs.Sums.{numbers_from, product_over, sum_over}
 use Rattle.halo_sums.proofs.Sums.{sum_over-const}
-use Rattle.halo_model.specs.Order.{Ties, all_orders, declared_order, orders, orders_taken, rank_in}
+use Rattle.halo_model.specs.Order.{orders, orders_taken, rank_in}
+use Rattle.halo_contract.specs.declared.ties.Ties.{Ties}
+use Rattle.halo_contract.specs.declared.ties.Ties.TheVariants.{Even, Declared}
 use Rattle.halo_model.specs.EvenTies.{YearNumbers, factorial, first_leaving, first_leaving_evenly, lives_in, number_at, without}
 use Rattle.halo_model.proofs.Orders.{orders-count}
 use Rattle.halo_model.proofs.EvenTies.{above, below, first-step, first_in, length-numbers, looks-at-set, sum_over-kept, without-here, without-there}
@@ -47,7 +49,7 @@ first-apart S (suc count) first b at-b low high lowest = ⊎_elim
 module _ (n : ℕ) (y : YearNumbers) where
   -- in the declared order the first life of a set comes first
   pub in-declared-order : (S : ℕ → Bool) (b : ℕ) → S b ≡ true → b < n → ((i : ℕ) → S i ≡ true → b ≤ i)
-      → leavings_of_set declared_order n y S ≡ weight_as_first declared_order n y S b
+      → leavings_of_set Declared n y S ≡ weight_as_first Declared n y S b
   in-declared-order S b at-b low lowest =
       let here = sym (looks-at-set n y S (numbers_from 0 n))
       ∙ ap (first_in n y S) (first-apart S n 0 b at-b (omega arith) (omega arith) lowest)
@@ -59,7 +61,7 @@ module _ (n : ℕ) (y : YearNumbers) where
       joined x a q p f g e h = rw (e, h) (omega arith)
 
   -- over all orders each life of a set comes first equally often
-  pub count-all : length (orders_taken all_orders n) ≡ factorial n
+  pub count-all : length (orders_taken Even n) ≡ factorial n
   count-all = omega (
     arith,
     sum_over-const (orders (numbers_from 0 n)) 1,
@@ -67,16 +69,16 @@ module _ (n : ℕ) (y : YearNumbers) where
     ap factorial (length-numbers n 0),
   )
 
-  pub each-first : (S : ℕ → Bool) → length (lives_in n S) * leavings_of_set all_orders n y S
-      ≡ sum_over (numbers_from 0 n) (λ b. cond (S b) (weight_as_first all_orders n y S b) 0)
+  pub each-first : (S : ℕ → Bool) → length (lives_in n S) * leavings_of_set Even n y S
+      ≡ sum_over (numbers_from 0 n) (λ b. cond (S b) (weight_as_first Even n y S b) 0)
   unfolding first_leaving_evenly
   each-first S = first-leaving-evenly n y S ∙ sum_over-kept S (numbers_from 0 n) _
       ∙ ap (λ f. sum_over (numbers_from 0 n) (λ b. cond (S b) (f b) 0)) (fun_ext (λ b. same b))
     where
       same : (b : ℕ) → y.leaving b * (factorial n * product_over (lives_in n (without S b)) y.alive)
-          + y.staying b * first_leaving_evenly n y (without S b) ≡ weight_as_first all_orders n y S b
+          + y.staying b * first_leaving_evenly n y (without S b) ≡ weight_as_first Even n y S b
       same b = ap (λ f. y.leaving b * (f * product_over (lives_in n (without S b)) y.alive)
-          + y.staying b * leavings_of_set all_orders n y (without S b)) (sym count-all)
+          + y.staying b * leavings_of_set Even n y (without S b)) (sym count-all)
 
   -- the weight of a set is at most that of all its lives
   module _ (parts : (i : ℕ) → y.leaving i + y.staying i ≤ y.alive i) where

@@ -3,4 +3,3 @@ pub mod Total
 pub mod PlainGroup
 pub mod YearOfSets
 pub mod YearOfLives
-pub mod Basis

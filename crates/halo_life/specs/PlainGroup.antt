@@ -2,13 +2,14 @@
 use Rattle.std.specs.Prelude.{◌≡◌, ℕ, ◌+◌, ◌<◌, ◌≤◌, Bool, true, false, cond, List, length}
 use Rattle.halo_sums.specs.Masks.{has_bit}
 use Rattle.halo_interest.specs.declared.powers.TheConstants.{LAST_TIME}
-use Rattle.halo_table.specs.DecrementTable.{TableFile, survivors_at}
+use Rattle.halo_table.specs.DecrementTable.{TableFile, survivors_at, HasRow}
 use Rattle.halo_table.specs.Sound.{IsSound}
 use Rattle.halo_table.specs.declared.lives.Life.{Life}
-use Rattle.halo_model.specs.FromTables.{HasRow, life_of}
+use Rattle.halo_model.specs.FromTables.{life_of}
 use Rattle.halo_model.specs.Horizon.{life_at}
 use Rattle.halo_model.specs.Life.{leavers_by}
-use Rattle.halo_model.specs.Order.{Ties, all_orders, declared_order}
+use Rattle.halo_contract.specs.declared.ties.Ties.{Ties}
+use Rattle.halo_contract.specs.declared.ties.Ties.TheVariants.{Even, Declared}
 use Rattle.halo_life.specs.declared.group.TheConstants.{MOST_LIVES}
 
 -- the tables, the lives in the declared order, a time, the mask of those that are alive then, and
@@ -22,12 +23,12 @@ pub record PlainGroup : Type 0 where
 
 -- whether all orders are taken, each with equal chance
 abbrev pub is_even : Ties → Bool
-is_even declared_order = false
-is_even all_orders = true
+is_even Declared = false
+is_even Even = true
 
 -- the rule for ties, by whether it is the even one
 abbrev pub ties_of : Bool → Ties
-ties_of even = cond even all_orders declared_order
+ties_of even = cond even Even Declared
 
 -- a life has a row at its age at a time
 abbrev pub HasRowAt : TableFile → List Life → ℕ → ℕ → Type 0

@@ -9,7 +9,8 @@ use Rattle.halo_num.specs.Ends.{Ends, HasWidth, IsWithin, fine}
 use Rattle.halo_model.specs.Chance.{asked}
 use Rattle.halo_model.specs.FromTables.{lives_of}
 use Rattle.halo_model.specs.EvenTies.{YearNumbers, lives_in, without}
-use Rattle.halo_model.specs.Order.{Ties, orders_taken}
+use Rattle.halo_model.specs.Order.{orders_taken}
+use Rattle.halo_contract.specs.declared.ties.Ties.{Ties}
 use Rattle.halo_model.specs.OrderLaws.{year_numbers}
 use Rattle.halo_life.specs.Lists.{entry, nothing}
 use Rattle.halo_life.specs.Total.{is_within}

@@ -7,7 +7,9 @@ use Rattle.halo_num.specs.Chance.{EnclosesChance}
 use Rattle.halo_num.specs.Ends.{Ends}
 use Rattle.halo_model.specs.EvenTies.{YearNumbers, first_leaving, lives_in}
 use Rattle.halo_model.specs.Life.{PlainLife}
-use Rattle.halo_model.specs.Order.{Ties, all_orders, declared_order, orders_taken, rank_in}
+use Rattle.halo_model.specs.Order.{orders_taken, rank_in}
+use Rattle.halo_contract.specs.declared.ties.Ties.{Ties}
+use Rattle.halo_contract.specs.declared.ties.Ties.TheVariants.{Even, Declared}
 use Rattle.halo_model.specs.OrderLaws.{year_numbers}
 use Rattle.halo_model.specs.Outcome.{joint_survivors}
 use Rattle.halo_life.specs.Lists.{entry}
@@ -44,5 +46,5 @@ EncloseLeavings ties n lives k named counted causes list = (mask : ℕ)
 -- the products that these chances of all sets of n lives take at most: one for a set in the
 -- declared order, and one for each life of it where all orders are taken
 abbrev pub products_of_leavings : Ties → ℕ → ℕ
-products_of_leavings declared_order n = 2 ^ n
-products_of_leavings all_orders n = n * 2 ^ n
+products_of_leavings Declared n = 2 ^ n
+products_of_leavings Even n = n * 2 ^ n

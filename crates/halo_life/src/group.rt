@@ -1,11 +1,10 @@
 // Some lives of a contract at a time.
 ghost use Rattle.std.specs.Prelude.{◌≡◌, ℕ, ◌+◌, ◌<◌, ◌≤◌, cond, length, nat_lt, true};
 ghost use Rattle.halo_sums.specs.Masks.{has_bit};
-ghost use Rattle.halo_table.specs.DecrementTable.{leavers_at};
+ghost use Rattle.halo_table.specs.DecrementTable.{leavers_at, HasRow};
 ghost use Rattle.halo_model.specs.Chance.{asked};
-ghost use Rattle.halo_model.specs.FromTables.{HasRow};
 ghost use Rattle.halo_model.specs.Horizon.{life_at};
-ghost use Rattle.halo_model.specs.Order.{all_orders, declared_order};
+ghost use Rattle.halo_contract.specs.declared.ties.Ties.TheVariants.{Even, Declared};
 ghost use Rattle.halo_life.specs.PlainGroup.{HasRowAt, IsGroup, is_even, leavers_of_life, survivors_in};
 
 use halo_interest::LAST_TIME;
@@ -66,7 +65,7 @@ impl<'a, const N: usize> Group<'a, N> {
           lives = lives.now;
           start = start;
           alive = alive;
-          ties = declared_order;
+          ties = Declared;
         } }
     {
         // The proof sees here that the tables are sound.
@@ -82,7 +81,7 @@ impl<'a, const N: usize> Group<'a, N> {
 
     /// The same group, where those who leave in one year leave in each order with equal chance.
     pub fn even(self) -> Group<'a, N>
-        ensures { result ≡ record self.entry { ties = all_orders } }
+        ensures { result ≡ record self.entry { ties = Even } }
     {
         Group {
             tables: self.tables,

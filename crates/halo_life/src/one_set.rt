@@ -5,7 +5,7 @@ ghost use Rattle.halo_sums.specs.Sets.{size_of};
 ghost use Rattle.halo_num.specs.Chance.{EnclosesChance};
 ghost use Rattle.halo_num.specs.Enclosure.{Encloses};
 ghost use Rattle.halo_num.specs.Ends.{HasWidth, IsWithin, fine};
-ghost use Rattle.halo_model.specs.Order.{all_orders};
+ghost use Rattle.halo_contract.specs.declared.ties.Ties.TheVariants.{Even};
 ghost use Rattle.halo_life.specs.PlainGroup.{is_even};
 ghost use Rattle.halo_life.specs.YearOfLives.{EncloseYears, EnclosesFirst, EnclosesLeaving, EnclosesSurvival, HasSmaller, numbers_of};
 
@@ -79,14 +79,14 @@ impl<'a, const N: usize> Group<'a, N> {
         work: &Work<M>,
         steps: &mut Steps<L>,
     ) -> Ival
-        requires rule { self.now.ties ≡ all_orders }
+        requires rule { self.now.ties ≡ Even }
         requires sets { M ≡ 2 ^ N }
         requires some { 0 < set }
         requires below { set < M }
         requires years { EncloseYears N (numbers_of self.now year.now) year.now.lives }
         requires smaller { HasSmaller
-            (EnclosesLeaving all_orders N (numbers_of self.now year.now)) set work.now.leavings }
-        ensures leaving { EnclosesLeaving all_orders N (numbers_of self.now year.now) set result }
+            (EnclosesLeaving Even N (numbers_of self.now year.now)) set work.now.leavings }
+        ensures leaving { EnclosesLeaving Even N (numbers_of self.now year.now) set result }
         ensures cost { steps.new ≤ steps.old + size_of (bits N set) }
     {
         let mut sum = Ival::exact(0);

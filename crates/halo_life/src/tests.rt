@@ -1,6 +1,6 @@
 // The chances of lives, worked by hand: of three in two short tables, and of two in a long one.
 ghost use Rattle.std.specs.Prelude.{◌≡◌, ◌<◌, IfOk};
-ghost use Rattle.halo_model.specs.FromTables.{HasRow};
+ghost use Rattle.halo_table.specs.DecrementTable.{HasRow};
 
 use crate::{Group, Work};
 use halo_interest::LAST_TIME;

@@ -10,7 +10,7 @@ use Rattle.halo_model.specs.Basis.{Basis}
 use Rattle.halo_model.specs.Enclosed.{EnclosesBenefits, EnclosesOne, EnclosesPremium}
 use Rattle.halo_model.specs.Horizon.{horizon}
 use Rattle.halo_model.specs.Line.{IsPrinted, IsReserveLine}
-use Rattle.halo_model.specs.Premium.{premium_pay}
+use Rattle.halo_contract.specs.Premium.{premium_pay}
 use Rattle.halo_model.proofs.Benefits.{reserve-with-premium, reserve-without-premium}
 use Rattle.halo_model.proofs.Printing.{reserve-has-line}
 

@@ -4,7 +4,7 @@ ghost use Rattle.halo_num.specs.Ends.{IsWithin};
 ghost use Rattle.halo_status.specs.Pay.{pay_of};
 ghost use Rattle.halo_model.specs.Basis.{Basis};
 ghost use Rattle.halo_model.specs.Enclosed.{EnclosesBenefits};
-ghost use Rattle.halo_model.specs.Premium.{all_lives};
+ghost use Rattle.halo_contract.specs.Premium.{all_lives};
 ghost use Rattle.halo_lines.specs.PayLines.{ArePayLines};
 ghost use Rattle.halo_lines.specs.Values.{AreValues, HaveRoom};
 

@@ -6,7 +6,7 @@ ghost use Rattle.halo_status.specs.Tree.{Tree};
 ghost use Rattle.halo_model.specs.Basis.{Basis};
 ghost use Rattle.halo_model.specs.Enclosed.{EnclosesBenefits, EnclosesOne, EnclosesPremium};
 ghost use Rattle.halo_model.specs.Line.{IsPremiumLine};
-ghost use Rattle.halo_model.specs.Premium.{all_lives, premium_pay};
+ghost use Rattle.halo_contract.specs.Premium.{all_lives, premium_pay};
 
 use halo_num::{GREATEST_DIVISOR, GREATEST_FACTOR, Ival, Nano};
 use halo_premium::premium;

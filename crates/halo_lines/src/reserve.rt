@@ -7,7 +7,7 @@ ghost use Rattle.halo_model.specs.Basis.{Basis};
 ghost use Rattle.halo_model.specs.Enclosed.{EnclosesBenefits, EnclosesOne, EnclosesPremium};
 ghost use Rattle.halo_model.specs.Horizon.{horizon};
 ghost use Rattle.halo_model.specs.Line.{IsReserveLine};
-ghost use Rattle.halo_model.specs.Premium.{premium_pay};
+ghost use Rattle.halo_contract.specs.Premium.{premium_pay};
 
 use halo_num::{Ival, Nano, Steps};
 use halo_reserve::reserve;

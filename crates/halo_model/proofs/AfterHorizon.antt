@@ -18,7 +18,7 @@ use Rattle.halo_model.specs.Horizon.{Covers, horizon, years_left_of}
 use Rattle.halo_model.specs.Segment.{last_time_of_form}
 use Rattle.halo_model.specs.Coefficient.{existence, exists_by_mark, form, view_of}
 use Rattle.halo_model.specs.Backward.{NothingAfterHorizon}
-use Rattle.halo_model.proofs.Agreement.{agree}
+use Rattle.halo_status.proofs.Agreement.{agree}
 use Rattle.halo_model.proofs.HorizonIsLeast.{horizon-is-least}
 
 -- a set all of whose numbers are in another

@@ -36,7 +36,7 @@ use Rattle.halo_model.specs.Backward.{AnnuityIsBounded, DueIsWorthOne, lies_in, 
 use Rattle.halo_model.proofs.AfterHorizon.{nothing-after-horizon}
 use Rattle.halo_model.proofs.Annuities.{exists-weight}
 use Rattle.halo_model.proofs.Backward.{all-there, annuity-by-times, discounted-now, may-not-before, sets-ext, time_part}
-use Rattle.halo_model.proofs.Agreement.{agree}
+use Rattle.halo_status.proofs.Agreement.{agree}
 use Rattle.halo_model.proofs.Expected.{Comes, expected-where}
 use Rattle.halo_model.proofs.Weights.{weights-add}
 

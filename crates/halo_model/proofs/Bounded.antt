@@ -29,7 +29,7 @@ use Rattle.halo_model.specs.Chance.{IsValidInsurance}
 use Rattle.halo_model.specs.PartLaws.{EndBy}
 use Rattle.halo_model.specs.Part.{end_part, leaving_part}
 use Rattle.halo_model.specs.OnePayment.{EndIsBounded, EndsAreBounded, HaveOwnRanks, InsuranceIsBounded, LeavingIsBounded, LeavingsAreBounded, IsBetween, most_paid, payments_of}
-use Rattle.halo_model.proofs.Agreement.{agree, each-agree}
+use Rattle.halo_status.proofs.Agreement.{agree, each-agree}
 use Rattle.halo_model.proofs.Expected.{Comes, Comes-length, expected-paid, expected-pos, expected-where}
 use Rattle.halo_model.proofs.HorizonIsLeast.{horizon-is-least}
 use Rattle.halo_model.proofs.Insurances.{at_exit, leaving-part-is, worth}

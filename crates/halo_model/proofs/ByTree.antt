@@ -13,7 +13,7 @@ use Rattle.halo_status.specs.Naming.{AnyNamesLivesBelow, NamesLivesBelow, any_na
 use Rattle.halo_status.specs.ReadOnce.{AreReadOnce, IsReadOnce, standings, standings_in}
 use Rattle.halo_model.specs.ByTree.{weight_of, weight_of_all, weight_of_count, weight_of_none, whole_in, whole_of}
 use Rattle.halo_model.specs.ByTreeLaws.{AreChances}
-use Rattle.halo_model.proofs.Agreement.{agree, each-agree, or-left, or-right, same}
+use Rattle.halo_status.proofs.Agreement.{agree, each-agree, or-left, or-right, same}
 
 either-stands : (b c : Bool) (m n : ℕ) → (b ≡ true → 1 ≤ m) → (c ≡ true → 1 ≤ n) → (b || c) ≡ true → 1 ≤ m + n
 either-stands true c m n f g e = omega (arith, f refl)

@@ -20,7 +20,8 @@ use Rattle.halo_model.specs.Life.{AreLives}
 use Rattle.halo_model.specs.Outcome.{Exit, Outcome, outcomes, weight}
 use Rattle.halo_model.specs.There.{lives_at, there}
 use Rattle.halo_model.specs.Event.{Event, leavings, lives_after, lives_before, term_ends, terms_after, terms_before, year_of}
-use Rattle.halo_model.specs.Order.{declared_order, rank_in}
+use Rattle.halo_model.specs.Order.{rank_in}
+use Rattle.halo_contract.specs.declared.ties.Ties.TheVariants.{Declared}
 use Rattle.halo_model.specs.Basis.{Basis, taken}
 use Rattle.halo_model.specs.Payment.{by_cause, fails_by_mark}
 use Rattle.halo_model.specs.Coefficient.{view_of}
@@ -205,8 +206,8 @@ pub ties-do-not-matter : TiesDoNotMatter
 ties-do-not-matter b rule end pay kind plain any_cause lasting T S = pos_injective _ _ (
     insurance-by-years b rule end pay kind plain any_cause lasting T S
     ∙ ap (λ z. pos (length (taken b)) *ℤ z) (once (int_sum_over (numbers_from 0 b.last_time) (year_part b pay T S))
-    ∙ sym (insurance-by-years (record b { ties = declared_order }) rule end pay kind plain any_cause lasting T S))
-    ∙ sym (pos_mul (length (taken b)) (numerator (record b { ties = declared_order }) pay T S))
+    ∙ sym (insurance-by-years (record b { ties = Declared }) rule end pay kind plain any_cause lasting T S))
+    ∙ sym (pos_mul (length (taken b)) (numerator (record b { ties = Declared }) pay T S))
     )
   where
     once : (z : ℤ) → z ≡ pos 1 *ℤ z

@@ -7,14 +7,15 @@ use Rattle.halo_sums.proofs.Numbers.{numbers_from-split, sum_over-numbers_ext, s
 use Rattle.halo_sums.proofs.Sums.{sum_over-append, sum_over-ext, sum_over-scale_right}
 use Rattle.halo_status.specs.Tree.{life}
 use Rattle.halo_status.specs.declared.pay.Kind.TheVariants.{Due, Insurance}
-use Rattle.halo_table.specs.DecrementTable.{TableFile}
+use Rattle.halo_table.specs.DecrementTable.{TableFile, HasRow}
 use Rattle.halo_table.specs.Sound.{IsSound}
 use Rattle.halo_model.specs.Basis.{Basis, accumulated, discounted}
 use Rattle.halo_model.specs.Columns.{ColumnBasis, ColumnsAgree, ColumnsAgreeOnOneLife, column_c, column_d, discount_power, end_age, leavers, sum_from, survivors}
-use Rattle.halo_model.specs.FromTables.{HasRow, life_of}
+use Rattle.halo_model.specs.FromTables.{life_of}
 use Rattle.halo_model.specs.Life.{IsLife, PlainLife}
-use Rattle.halo_model.specs.Order.{Ties, declared_order}
-use Rattle.halo_model.specs.Premium.{all_lives}
+use Rattle.halo_contract.specs.declared.ties.Ties.{Ties}
+use Rattle.halo_contract.specs.declared.ties.Ties.TheVariants.{Declared}
+use Rattle.halo_contract.specs.Premium.{all_lives}
 use Rattle.halo_model.specs.SmallBasis.{plain}
 use Rattle.halo_model.specs.Value.{denominator, numerator}
 use Rattle.halo_model.proofs.DueOnOneLife.{due-on-one-life}
@@ -75,8 +76,8 @@ module _ (p q : ℕ) (file : TableFile) (table age last_time : ℕ) (ties : Ties
         discounted-is p q last_time (x ∷ []) ties t,
         accumulated-is p q last_time (x ∷ []) ties,
         discounted-is p q
-            (end_age c) [] declared_order age,
-        discounted-is p q (end_age c) [] declared_order (age + t),
+            (end_age c) [] Declared age,
+        discounted-is p q (end_age c) [] Declared (age + t),
       )
       (powers-meet q (p + q) last_time (end_age c) age t within on_table)
 

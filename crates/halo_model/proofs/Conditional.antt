@@ -11,7 +11,7 @@ use Rattle.halo_sums.proofs.Numbers.{int_sum_over-numbers_ext, numbers_from-add}
 use Rattle.halo_model.specs.Life.{AreLives, IsLife, PlainLife, after_first}
 use Rattle.halo_model.specs.Outcome.{Exit, Outcome, exit_weight, joint_survivors, outcomes, ways, weight}
 use Rattle.halo_model.specs.There.{there}
-use Rattle.halo_model.specs.Premium.{all_lives}
+use Rattle.halo_contract.specs.Premium.{all_lives}
 use Rattle.halo_model.specs.Value.{outcome_value, ranked_numerator}
 use Rattle.halo_model.specs.Expectation.{expected}
 use Rattle.halo_model.specs.ReserveLaw.{ReserveIsConditional, exactly_at}

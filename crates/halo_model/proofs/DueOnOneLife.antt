@@ -10,11 +10,13 @@ use Rattle.halo_sums.proofs.IntSums.{int_sum_over-ext, int_sum_over-pos}
 use Rattle.halo_status.specs.Tree.{life}
 use Rattle.halo_status.specs.Pay.{PlainPay}
 use Rattle.halo_model.specs.Life.{AreLives, PlainLife}
-use Rattle.halo_model.specs.Order.{Ties, all_orders, declared_order, orders_taken}
+use Rattle.halo_model.specs.Order.{orders_taken}
+use Rattle.halo_contract.specs.declared.ties.Ties.{Ties}
+use Rattle.halo_contract.specs.declared.ties.Ties.TheVariants.{Even, Declared}
 use Rattle.halo_model.specs.Basis.{Basis, accumulated, discounted, taken}
 use Rattle.halo_model.specs.Coefficient.{form}
 use Rattle.halo_model.specs.Payment.{payment}
-use Rattle.halo_model.specs.Premium.{all_lives}
+use Rattle.halo_contract.specs.Premium.{all_lives}
 use Rattle.halo_model.specs.Value.{denominator, numerator}
 use Rattle.halo_model.specs.OneLife.{DueOnOneLife}
 use Rattle.halo_model.specs.Part.{due_part, existing_weight}
@@ -25,8 +27,8 @@ pub one-order : (b : Basis) (x : PlainLife) → b.lives ≡ x ∷ [] → length 
 one-order b x one = rw one (each b.ties)
   where
     each : (ties : Ties) → length (orders_taken ties 1) ≡ 1
-    each declared_order = refl
-    each all_orders = refl
+    each Declared = refl
+    each Even = refl
 
 -- it exists with the weight of its survivors
 weight-of-one : (b : Basis) (x : PlainLife) → b.lives ≡ x ∷ [] → (pay : PlainPay) → pay.mark ≡ None → pay.body ≡ life 0 → (t : ℕ) → existing_weight b pay 0 all_lives t ≡ pos (x.survivors t)

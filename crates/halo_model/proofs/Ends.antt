@@ -18,7 +18,7 @@ use Rattle.halo_model.specs.Event.{ends, life_not_earlier, lives_after, lives_be
 use Rattle.halo_model.specs.Payment.{falls_on, fails_by_mark, members_of}
 use Rattle.halo_model.specs.Chance.{IsValidInsurance, OfMarked, ending}
 use Rattle.halo_model.specs.ChanceLaws.{ChanceOnEnd}
-use Rattle.halo_model.proofs.Agreement.{agree}
+use Rattle.halo_status.proofs.Agreement.{agree}
 use Rattle.halo_model.proofs.Fails.{OthersStay, fails-is}
 use Rattle.halo_model.proofs.Falls.{in_set-there_at, reached}
 use Rattle.halo_model.proofs.Leaving.{expected-by-coefficients}

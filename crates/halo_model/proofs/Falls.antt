@@ -22,7 +22,7 @@ use Rattle.halo_model.specs.Coefficient.{existence, form}
 use Rattle.halo_model.specs.Expectation.{derivative, leaves_in, looked_at}
 use Rattle.halo_model.specs.Chance.{IsValidInsurance, OfMarked, asked, paid_at_exit, paid_on_leaving}
 use Rattle.halo_model.specs.ChanceLaws.{ChanceOnLeaving}
-use Rattle.halo_model.proofs.Agreement.{agree}
+use Rattle.halo_status.proofs.Agreement.{agree}
 use Rattle.halo_model.proofs.Expected.{expected-ext}
 use Rattle.halo_model.proofs.Fails.{OthersStay, fails-is}
 use Rattle.halo_model.proofs.Marked.{ApartFrom, apart-from-marked, valid-mark}

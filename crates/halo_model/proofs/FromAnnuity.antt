@@ -23,7 +23,7 @@ use Rattle.halo_model.specs.Payment.{payment}
 use Rattle.halo_model.specs.Chance.{IsValidInsurance}
 use Rattle.halo_model.specs.Part.{due_part, existing_weight, paid_for_year}
 use Rattle.halo_model.specs.PartLaws.{EndBy}
-use Rattle.halo_model.specs.Premium.{all_lives}
+use Rattle.halo_contract.specs.Premium.{all_lives}
 use Rattle.halo_model.specs.Value.{denominator, numerator}
 use Rattle.halo_model.specs.ByYears.{InsuranceFromAnnuity, as_due, due_numerator_at, year_part}
 use Rattle.halo_model.proofs.Annuities.{exists-weight}

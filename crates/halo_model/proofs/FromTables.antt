@@ -8,11 +8,11 @@ use Rattle.std.proofs.lemmas.List.Sums.{sum_by-cons}
 use Rattle.halo_sums.specs.Sums.{numbers_from, sum_over}
 use Rattle.halo_sums.proofs.Numbers.{sum_over-numbers_next}
 use Rattle.halo_sums.proofs.Sums.{sum_over-none}
-use Rattle.halo_table.specs.DecrementTable.{DecrementRow, DecrementTable, TableFile, empty_row, empty_table, first_age_of, table_of}
+use Rattle.halo_table.specs.DecrementTable.{DecrementRow, DecrementTable, TableFile, empty_row, empty_table, first_age_of, table_of, HasRow}
 use Rattle.halo_table.specs.Sound.{AreSoundRows, IsSound, IsSoundTable}
 use Rattle.halo_table.specs.declared.lives.Life.{Life}
 use Rattle.halo_model.specs.Life.{AreLives, IsLife, leavers_in}
-use Rattle.halo_model.specs.FromTables.{HasRow, life_of, lives_of}
+use Rattle.halo_model.specs.FromTables.{life_of, lives_of}
 
 sum_over-get_or : (ns : List ℕ) → sum_over (numbers_from 0 (length ns)) (λ j. get_or ns j 0) ≡ sum ns
 sum_over-get_or [] = refl

@@ -4,7 +4,7 @@ use Rattle.std.proofs.lemmas.Bool.Decides.{nat_tests}
 use Rattle.halo_status.specs.Tree.{Tree, Trees, life, term, joint, last, at_least, exactly, after, none, more}
 use Rattle.halo_status.specs.Naming.{any_names_life, any_names_term, names_life, names_term}
 use Rattle.halo_model.specs.Horizon.{HorizonIsLeast, horizon, longest, longest_of, years_left_of}
-use Rattle.halo_model.proofs.Agreement.{or-left, or-right, same}
+use Rattle.halo_status.proofs.Agreement.{or-left, or-right, same}
 
 equal : (i j : ℕ) → nat_eq i j ≡ true → i ≡ j
 equal i j e = grind (arith, nat_tests)

@@ -14,7 +14,7 @@ use Rattle.halo_model.specs.Expectation.{exactly_there, gone_if, survivors_if}
 use Rattle.halo_model.specs.ByTree.{weight_of, whole_of}
 use Rattle.halo_model.specs.Independent.{set_weight, started_of, survivors_of}
 use Rattle.halo_model.specs.ByTreeLaws.{AreChances, ExistenceByTree, ExpectedByTree}
-use Rattle.halo_model.proofs.Agreement.{same}
+use Rattle.halo_status.proofs.Agreement.{same}
 use Rattle.halo_model.proofs.BySets.{expected-by-sets}
 use Rattle.halo_model.proofs.ByTree.{Ignores, tree-expected}
 

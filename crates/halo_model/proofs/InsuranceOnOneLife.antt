@@ -16,7 +16,7 @@ use Rattle.halo_model.specs.OneLife.{InsuranceOnOneLife}
 use Rattle.halo_model.specs.Order.{rank_in}
 use Rattle.halo_model.specs.Outcome.{Outcome, exits, outcomes, weight}
 use Rattle.halo_model.specs.Payment.{by_cause, falls_on, payment}
-use Rattle.halo_model.specs.Premium.{all_lives}
+use Rattle.halo_contract.specs.Premium.{all_lives}
 use Rattle.halo_model.specs.Value.{event_value, insurance_value, numerator, ranked_numerator}
 use Rattle.halo_model.proofs.DueOnOneLife.{denominator-of-one, one-order}
 

@@ -9,7 +9,6 @@ pub mod Readings
 pub mod LifeReadings
 pub mod Leaving
 pub mod Longest
-pub mod Agreement
 pub mod ByTree
 pub mod Independent
 pub mod Waiting

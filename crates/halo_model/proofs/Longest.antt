@@ -13,10 +13,11 @@ use Rattle.halo_status.specs.Nodes.{nodes, nodes_in}
 use Rattle.halo_status.proofs.Lists.{HasMembers}
 use Rattle.halo_status.proofs.Walk.{left_at}
 use Rattle.halo_status.proofs.Shapes.{tree_of-AtLeast, tree_of-Exactly, tree_of-Joint, tree_of-Last, tree_of-After, tree_of-Life, tree_of-Term}
-use Rattle.halo_table.specs.DecrementTable.{TableFile}
+use Rattle.halo_table.specs.DecrementTable.{TableFile, HasRow}
 use Rattle.halo_table.specs.declared.lives.Life.{Life}
-use Rattle.halo_model.specs.FromTables.{HasRow, life_of, lives_of}
-use Rattle.halo_model.proofs.Agreement.{or-left, or-right, same}
+use Rattle.halo_model.specs.FromTables.{life_of, lives_of}
+use Rattle.halo_status.proofs.Agreement.{or-left, or-right, same}
+use Rattle.halo_status.proofs.NamedMembers.{names_life-at, names_term-at, split_at}
 use Rattle.halo_model.specs.Horizon.{HasRows, HasShortTerms, HaveRows, HaveShortTerms, life_at, longest, longest_of, years_left_of}
 
 -- what holds of the tree of a status with a list of members, whichever of the four it is
@@ -26,26 +27,6 @@ listed P now ms (inl e) h = inl (rw (e, tree_of-Joint ms) at h)
 listed P now ms (inr (inl e)) h = inr (inl (rw (e, tree_of-Last ms) at h))
 listed P now ms (inr (inr (inl e))) h = inr (inr (inl (e.0, rw (e.1, tree_of-AtLeast e.0 ms) at h)))
 listed P now ms (inr (inr (inr e))) h = inr (inr (inr (e.0, rw (e.1, tree_of-Exactly e.0 ms) at h)))
-
--- the member at a place, and those behind it
-pub split_at : (ms : List Status) (i : ℕ) (s : Status) → i < length ms → slice_get ms i ≡ Some s → trees_in (drop i ms) ≡ more (tree_of s) (trees_in (drop (i + 1) ms))
-split_at ms i s within h = left_at ms i s within (sym (get_or_from_slice_get ms i s s h))
-
--- a member is named and counted among those that it stands before
-pub names_life-at : (ms : List Status) (i : ℕ) (s : Status) → slice_get ms i ≡ Some s → (a : ℕ) → names_life a (tree_of s) ≡ true → any_names_life a (trees_in ms) ≡ true
-names_life-at [] i s h a e = absurd (cc)
-names_life-at (m ∷ ms) zero s h a e = let q : m ≡ s = grind arith in rw q (or-left _ _ e)
-names_life-at (m ∷ ms) (suc i) s h a e = or-right (names_life a (tree_of m)) _ (names_life-at ms i s h a e)
-
-names_term-at : (ms : List Status) (i : ℕ) (s : Status) → slice_get ms i ≡ Some s → (n : ℕ) → names_term n (tree_of s) ≡ true → any_names_term n (trees_in ms) ≡ true
-names_term-at [] i s h n e = absurd (cc)
-names_term-at (m ∷ ms) zero s h n e = let q : m ≡ s = grind arith in rw q (or-left _ _ e)
-names_term-at (m ∷ ms) (suc i) s h n e = or-right (names_term n (tree_of m)) _ (names_term-at ms i s h n e)
-
-pub nodes-at : (ms : List Status) (i : ℕ) (s : Status) → slice_get ms i ≡ Some s → nodes (tree_of s) ≤ nodes_in (trees_in ms)
-nodes-at [] i s h = absurd (cc)
-nodes-at (m ∷ ms) zero s h = let q : m ≡ s = grind arith in rw q (omega arith)
-nodes-at (m ∷ ms) (suc i) s h = omega (arith, nodes-at ms i s h)
 
 module _ (file : TableFile) (lives : List Life) where
   pub at_life : (now : Status) (i : ℕ) → now ≡ LifeStatus i → HasRows file lives (tree_of now) → (i < length lives) × HasRow file (life_at lives i).table (life_at lives i).age

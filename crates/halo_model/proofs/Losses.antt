@@ -16,7 +16,7 @@ use Rattle.halo_model.specs.ByTreeLaws.{AreChances}
 use Rattle.halo_model.specs.PartsByTree.{EndLossIsNotNegative, LossIsNotNegative, PayLossIsNotNegative, others_of, put_for, waiting, waiting_member}
 use Rattle.halo_model.specs.Chance.{OfMarked}
 use Rattle.halo_model.specs.Payment.{members_of}
-use Rattle.halo_model.proofs.Agreement.{same}
+use Rattle.halo_status.proofs.Agreement.{same}
 use Rattle.halo_model.proofs.Waiting.{members-standings, standings-split}
 use Rattle.halo_model.proofs.ByTree.{named-stands, weight-le}
 use Rattle.halo_model.proofs.PartsByTree.{put-chances}

@@ -15,7 +15,7 @@ use Rattle.halo_model.specs.Event.{Event, ends, leaves, lives_after, lives_befor
 use Rattle.halo_model.specs.Payment.{fails_at_rank, fails_by_mark, falls_on, members_of}
 use Rattle.halo_model.specs.Chance.{IsMarkedAnd, paid_at_exit}
 use Rattle.halo_model.specs.ChanceLaws.{NoChanceOnOtherEnd, NoChanceOnOtherLeaving}
-use Rattle.halo_model.proofs.Agreement.{agree}
+use Rattle.halo_status.proofs.Agreement.{agree}
 use Rattle.halo_model.proofs.Expected.{expected-none}
 
 pub other-than : (a i : ℕ) → (i ≡ a → ⊥) → nat_eq a i ≡ false

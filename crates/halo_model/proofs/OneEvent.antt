@@ -21,7 +21,7 @@ use Rattle.halo_model.specs.Basis.{taken}
 use Rattle.halo_model.specs.Payment.{by_cause, fails_by_mark, falls_on}
 use Rattle.halo_model.specs.OnePayment.{HaveOwnRanks}
 use Rattle.halo_model.specs.OneEvent.{OneEventAYear, fails_in_year, falls_in_year, payments_in_year}
-use Rattle.halo_model.proofs.Agreement.{agree}
+use Rattle.halo_status.proofs.Agreement.{agree}
 use Rattle.halo_model.proofs.Earlier.{IsOn}
 use Rattle.halo_model.proofs.Insurances.{at_exit, sum_over-leavings}
 use Rattle.halo_model.proofs.NoChance.{other-than}

@@ -5,7 +5,8 @@ use Rattle.std.specs.List.{flat_map, list_any}
 use Rattle.std.proofs.lemmas.Bool.Decides.{nat_tests}
 use Rattle.std.proofs.lemmas.List.Elements.{All-append, All-cons, All-head, All-map, All-nil, All-tail, All-weaker}
 use Rattle.halo_sums.specs.Sums.{numbers_from}
-use Rattle.halo_model.specs.Order.{all_orders, declared_order, insertions, orders, rank_in}
+use Rattle.halo_model.specs.Order.{insertions, orders, rank_in}
+use Rattle.halo_contract.specs.declared.ties.Ties.TheVariants.{Even, Declared}
 use Rattle.halo_model.specs.OnePayment.{HaveOwnRanks, OrdersGiveOwnRanks}
 
 -- whether a life stands in an order
@@ -85,10 +86,10 @@ own-ranks : (xs order : List ℕ) (n : ℕ)
 own-ranks xs order n all same i j before within e = own-rank order i j (same i ∙ all i before) e
 
 pub orders-give-own-ranks : OrdersGiveOwnRanks
-orders-give-own-ranks declared_order n = All-cons (λ order. HaveOwnRanks (rank_in order) n) (numbers_from 0 n) []
+orders-give-own-ranks Declared n = All-cons (λ order. HaveOwnRanks (rank_in order) n) (numbers_from 0 n) []
     (own-ranks (numbers_from 0 n) (numbers_from 0 n) n (λ i before. stands-numbers n 0 i (omega arith) (omega arith))
     (λ i. refl)) (All-nil (λ order. HaveOwnRanks (rank_in order) n))
-orders-give-own-ranks all_orders n = All-weaker
+orders-give-own-ranks Even n = All-weaker
     (λ order. (i : ℕ) → stands i order ≡ stands i (numbers_from 0 n)) (λ order. HaveOwnRanks (rank_in order) n)
     (λ order same. own-ranks (numbers_from 0 n) order n
     (λ i before. stands-numbers n 0 i (omega arith) (omega arith)) same) (orders (numbers_from 0 n))

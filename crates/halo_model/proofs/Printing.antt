@@ -5,7 +5,7 @@ use Rattle.halo_num.specs.Ends.{Ends, HasWidth}
 use Rattle.halo_num.specs.Enclosure.{Encloses}
 use Rattle.halo_num.specs.declared.nano.Nano.{Nano}
 use Rattle.halo_model.specs.Line.{IsLine, IsPrinted, PayHasLine, PremiumHasLine, ReserveHasLine, TotalHasLine}
-use Rattle.halo_model.specs.Premium.{all_lives}
+use Rattle.halo_contract.specs.Premium.{all_lives}
 use Rattle.halo_model.specs.Value.{numerator, total_numerator}
 use Rattle.halo_model.specs.Widths.{pay_width, printed_pay_width, printed_premium_width, printed_reserve_width, printed_total_width, printed_width}
 

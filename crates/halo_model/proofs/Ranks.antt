@@ -18,7 +18,7 @@ use Rattle.halo_model.specs.Basis.{Basis, discounted, taken}
 use Rattle.halo_model.specs.Payment.{by_cause, fails_at_rank, payment}
 use Rattle.halo_model.specs.Value.{event_value, insurance_value, numerator, ranked_numerator}
 use Rattle.halo_model.specs.MarkLaws.{RanksAddUp, with_mark}
-use Rattle.halo_model.proofs.Agreement.{or-left, or-right}
+use Rattle.halo_status.proofs.Agreement.{or-left, or-right}
 use Rattle.halo_model.proofs.Fails.{count_true-at, count_true-most, length-each_exists}
 use Rattle.halo_model.proofs.FirstMarks.{guarded}
 use Rattle.halo_model.proofs.NoChance.{get_or-each_exists, unnamed-at-end}

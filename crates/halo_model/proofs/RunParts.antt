@@ -18,7 +18,7 @@ use Rattle.halo_model.specs.Payment.{payment}
 use Rattle.halo_model.specs.Coefficient.{form}
 use Rattle.halo_model.specs.Expectation.{all_there}
 use Rattle.halo_model.specs.Horizon.{horizon}
-use Rattle.halo_model.specs.Premium.{all_lives}
+use Rattle.halo_contract.specs.Premium.{all_lives}
 use Rattle.halo_model.specs.Segment.{AreSegmentsFrom, IsUniform, Run, first_time, last_time_of_form}
 use Rattle.halo_model.specs.Backward.{lies_in, may_pay, outside, paid_at, years_passed}
 use Rattle.halo_model.specs.RunPart.{RunPartsAddUp, paid_to_set, run_part, times_of}

@@ -4,7 +4,8 @@ use Rattle.std.specs.List.{All, filter, flat_map}
 use Rattle.std.proofs.lemmas.Bool.Decides.{nat_tests}
 use Rattle.std.proofs.lemmas.List.Elements.{All-append, All-cons, All-map}
 use Rattle.halo_sums.specs.Sums.{numbers_from, product_over}
-use Rattle.halo_model.specs.Order.{all_orders, declared_order, insertions, orders, rank_in}
+use Rattle.halo_model.specs.Order.{insertions, orders, rank_in}
+use Rattle.halo_contract.specs.declared.ties.Ties.TheVariants.{Even, Declared}
 use Rattle.halo_model.specs.EvenTies.{YearNumbers, first_leaving, lives_in, without}
 use Rattle.halo_model.specs.OrderLaws.{SomeLeavesInEachOrder}
 use Rattle.halo_model.proofs.EvenTies.{alive-with, all_alive, apart, first-step, first_in, looks-at-set, nat_eq-same, taken-out, within}
@@ -130,12 +131,12 @@ stands-among (suc count) first i low high =
     each false e rest = rest (grind (arith, nat_tests, e, low))
 
 pub some-leaves-in-each-order : SomeLeavesInEachOrder
-some-leaves-in-each-order n y whole S low declared_order = λ k d l. one k d l
+some-leaves-in-each-order n y whole S low Declared = λ k d l. one k d l
   where
     one : (k : ℕ) (d : List ℕ)
         → k < 1 → first_in n y S (get_or (numbers_from 0 n ∷ []) k d) + all_stay n y whole S ≡ all_alive n y S
     one zero d l = in-order n y whole
         (numbers_from 0 n) S low (λ i at-i. stands-among n 0 i (omega arith) (omega (arith, low i at-i)))
     one (suc k) d l = absurd (omega arith)
-some-leaves-in-each-order n y whole S low all_orders = λ k d l. in-order n y whole _ S low
+some-leaves-in-each-order n y whole S low Even = λ k d l. in-order n y whole _ S low
     (λ i at-i. all-stand i (numbers_from 0 n) (stands-among n 0 i (omega arith) (omega (arith, low i at-i))) k d l)

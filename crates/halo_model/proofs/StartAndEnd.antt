@@ -18,7 +18,7 @@ use Rattle.halo_model.specs.Outcome.{Exit, Outcome}
 use Rattle.halo_model.specs.There.{lives_at, there}
 use Rattle.halo_model.specs.Chance.{IsValidInsurance}
 use Rattle.halo_model.specs.PartLaws.{EndBy}
-use Rattle.halo_model.proofs.Agreement.{agree}
+use Rattle.halo_status.proofs.Agreement.{agree}
 use Rattle.halo_model.proofs.Expected.{Comes, IsWay}
 use Rattle.halo_model.proofs.Insurances.{ExitBefore, exit-before}
 

@@ -11,7 +11,7 @@ use Rattle.halo_status.specs.Naming.{names_life}
 use Rattle.halo_status.specs.View.{is_on}
 use Rattle.halo_model.specs.Coefficient.{existence, form, view_of}
 use Rattle.halo_model.specs.Unnamed.{UnnamedDoNotCount}
-use Rattle.halo_model.proofs.Agreement.{agree}
+use Rattle.halo_status.proofs.Agreement.{agree}
 
 -- two sets that differ at most in life i
 abbrev DifferAt : ℕ → List Bool → List Bool → Type 0

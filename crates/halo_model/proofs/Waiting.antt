@@ -10,7 +10,7 @@ use Rattle.halo_status.specs.declared.pay.Mark.{Mark}
 use Rattle.halo_model.specs.Payment.{members_of}
 use Rattle.halo_model.specs.Coefficient.{exists_by_mark, waits_at_rank}
 use Rattle.halo_model.specs.PartsByTree.{others_of, waiting, waiting_member}
-use Rattle.halo_model.proofs.Agreement.{or-left, or-right}
+use Rattle.halo_status.proofs.Agreement.{or-left, or-right}
 
 -- a member and the others together are the list
 pub standings-split : (i : ℕ) (ms : Trees) (place : ℕ) (s : Tree)

@@ -10,7 +10,7 @@ use Rattle.halo_model.specs.Life.{IsLife}
 use Rattle.halo_model.specs.Coefficient.{form}
 use Rattle.halo_model.specs.Counts.{width_count}
 use Rattle.halo_model.specs.Horizon.{horizon}
-use Rattle.halo_model.specs.Premium.{all_lives}
+use Rattle.halo_contract.specs.Premium.{all_lives}
 use Rattle.halo_model.specs.Segment.{IsUniform}
 use Rattle.halo_model.specs.SmallBasis.{both, marked, plain}
 use Rattle.halo_model.specs.Value.{denominator, numerator}

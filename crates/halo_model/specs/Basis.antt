@@ -2,7 +2,8 @@
 use Rattle.std.specs.Prelude.{ℕ, ◌+◌, ◌-◌, ◌*◌, List, length}
 use Rattle.halo_sums.specs.Sums.{numbers_from, product_over}
 use Rattle.halo_model.specs.Life.{PlainLife}
-use Rattle.halo_model.specs.Order.{Ties, orders_taken}
+use Rattle.halo_model.specs.Order.{orders_taken}
+use Rattle.halo_contract.specs.declared.ties.Ties.{Ties}
 
 -- Year k has the interest p k / q k. The last time is the last at which anything is paid. The lives stand in the declared order.
 pub record Basis : Type 0 where

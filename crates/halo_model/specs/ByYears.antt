@@ -8,12 +8,12 @@ use Rattle.halo_status.specs.Pay.{PlainPay}
 use Rattle.halo_status.specs.declared.pay.Kind.TheVariants.{Insurance, Due}
 use Rattle.halo_status.specs.declared.pay.Vary.TheVariants.{Level}
 use Rattle.halo_model.specs.Life.{AreLives}
-use Rattle.halo_model.specs.Order.{declared_order}
+use Rattle.halo_contract.specs.declared.ties.Ties.TheVariants.{Declared}
 use Rattle.halo_model.specs.Basis.{Basis, taken}
 use Rattle.halo_model.specs.Chance.{IsValidInsurance}
 use Rattle.halo_model.specs.Part.{due_part, existing_weight, paid_for_year}
 use Rattle.halo_model.specs.PartLaws.{EndBy}
-use Rattle.halo_model.specs.Premium.{all_lives}
+use Rattle.halo_contract.specs.Premium.{all_lives}
 use Rattle.halo_model.specs.Value.{denominator, numerator}
 
 -- what an insurance pays for year k adds to its value at T, if it pays whenever its body fails
@@ -59,4 +59,4 @@ TiesDoNotMatter = (b : Basis)
     → AreLives b.lives → EndBy b.last_time b.lives → (pay : PlainPay) → pay.kind ≡ Insurance
     → pay.mark ≡ None → pay.causes ≡ None → IsLasting pay.body → (T : ℕ) (S : ℕ → Bool)
     → numerator b pay T S
-    ≡ length (taken b) * numerator (record b { ties = declared_order }) pay T S
+    ≡ length (taken b) * numerator (record b { ties = Declared }) pay T S

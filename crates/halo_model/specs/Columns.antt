@@ -4,12 +4,13 @@ use Rattle.std.specs.Prelude.{◌≡◌, ℕ, ◌+◌, ◌-◌, ◌*◌, ◌≤�
 use Rattle.halo_sums.specs.Sums.{numbers_from, sum_over}
 use Rattle.halo_status.specs.Tree.{life}
 use Rattle.halo_status.specs.declared.pay.Kind.TheVariants.{Due, Insurance}
-use Rattle.halo_table.specs.DecrementTable.{TableFile, last_age_of, leavers_at, survivors_at}
+use Rattle.halo_table.specs.DecrementTable.{TableFile, last_age_of, leavers_at, survivors_at, HasRow}
 use Rattle.halo_table.specs.Sound.{IsSound}
 use Rattle.halo_model.specs.Basis.{Basis, accumulated, discounted}
-use Rattle.halo_model.specs.FromTables.{HasRow, life_of}
-use Rattle.halo_model.specs.Order.{Ties, declared_order}
-use Rattle.halo_model.specs.Premium.{all_lives}
+use Rattle.halo_model.specs.FromTables.{life_of}
+use Rattle.halo_contract.specs.declared.ties.Ties.{Ties}
+use Rattle.halo_contract.specs.declared.ties.Ties.TheVariants.{Declared}
+use Rattle.halo_contract.specs.Premium.{all_lives}
 use Rattle.halo_model.specs.SmallBasis.{plain}
 use Rattle.halo_model.specs.Value.{denominator, numerator}
 
@@ -27,7 +28,7 @@ end_age c = last_age_of c.file c.table + 1
 
 -- the interest of the years up to the age after the last one
 abbrev pub years_of : ColumnBasis → Basis
-years_of c = record { p = c.p; q = c.q; last_time = end_age c; lives = []; ties = declared_order }
+years_of c = record { p = c.p; q = c.q; last_time = end_age c; lives = []; ties = Declared }
 
 -- all columns are told in the parts of which 1 has so many: the product of the p + q of these years
 unfoldable pub column_denominator : ColumnBasis → ℕ

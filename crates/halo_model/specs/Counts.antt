@@ -11,7 +11,8 @@ use Rattle.halo_status.specs.declared.pay.Vary.{Vary}
 use Rattle.halo_status.specs.declared.pay.Vary.TheVariants.{Level, Increasing, Decreasing}
 use Rattle.halo_model.specs.Basis.{Basis}
 use Rattle.halo_model.specs.Horizon.{horizon}
-use Rattle.halo_model.specs.Order.{Ties, all_orders}
+use Rattle.halo_contract.specs.declared.ties.Ties.{Ties}
+use Rattle.halo_contract.specs.declared.ties.Ties.TheVariants.{Even}
 use Rattle.halo_model.specs.Segment.{coefficients_at, first_time}
 
 -- how many of n lives a status names
@@ -40,7 +41,7 @@ greatest_factor (Decreasing n) horizon = n
 
 -- by how much more an insurance on n named lives may be wide where each order of the lives counts
 abbrev pub order_share : Ties → Kind → ℕ → ℕ
-order_share all_orders Insurance named = 2 ^ (named + 1)
+order_share Even Insurance named = 2 ^ (named + 1)
 order_share _ _ named = 1
 
 -- what the counts of a pay are made of, each from the contract and its tables: the nodes of its body, the lives that it names, its horizon, the weight of its form,

@@ -12,7 +12,7 @@ use Rattle.halo_model.specs.Basis.{Basis}
 use Rattle.halo_model.specs.Counts.{measures_of, most_worth}
 use Rattle.halo_model.specs.Enclosed.{EnclosesBenefits, EnclosesOne, EnclosesPremium, EnclosesReserve}
 use Rattle.halo_model.specs.Horizon.{horizon}
-use Rattle.halo_model.specs.Premium.{all_lives, premium_pay}
+use Rattle.halo_contract.specs.Premium.{all_lives, premium_pay}
 use Rattle.halo_model.specs.Widths.{benefit_most}
 
 -- no pays are worth nothing

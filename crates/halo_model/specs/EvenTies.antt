@@ -2,7 +2,8 @@
 -- over all orders.
 use Rattle.std.specs.Prelude.{ℕ, zero, suc, ◌*◌, Bool, cond, not, ◌&&◌, nat_eq, nat_lt, List, filter}
 use Rattle.halo_sums.specs.Sums.{numbers_from, product_over, sum_over}
-use Rattle.halo_model.specs.Order.{all_orders, orders_taken, rank_in}
+use Rattle.halo_model.specs.Order.{orders_taken, rank_in}
+use Rattle.halo_contract.specs.declared.ties.Ties.TheVariants.{Even}
 
 -- n!
 abbrev pub factorial : ℕ → ℕ
@@ -40,4 +41,4 @@ first_leaving y rank lives = sum_over lives (λ a. product_over lives (number_at
 -- the same over all orders of n lives, for those in a set
 unfoldable pub first_leaving_evenly : ℕ → YearNumbers → (ℕ → Bool) → ℕ
 first_leaving_evenly n y S =
-    sum_over (orders_taken all_orders n) (λ order. first_leaving y (rank_in order) (lives_in n S))
+    sum_over (orders_taken Even n) (λ order. first_leaving y (rank_in order) (lives_in n S))

@@ -1,5 +1,5 @@
 -- The lives of a contract, as the tables of a file tell them.
-use Rattle.std.specs.Prelude.{ℕ, ◌+◌, ◌-◌, ◌<◌, ◌≤◌, List, length, map}
+use Rattle.std.specs.Prelude.{ℕ, ◌+◌, ◌-◌, List, length, map}
 use Rattle.halo_table.specs.DecrementTable.{TableFile, first_age_of, last_age_of, leavers_at, survivors_at}
 use Rattle.halo_table.specs.declared.lives.Life.{Life}
 use Rattle.halo_model.specs.Life.{PlainLife}
@@ -16,9 +16,3 @@ life_of file table age = record {
 -- the lives of a contract, in the declared order
 abbrev pub lives_of : TableFile → List Life → List PlainLife
 lives_of file lives = map (λ life. life_of file life.table life.age) lives
-
--- a life that has a row: its table is one of the file, and goes from its age or before to its age or after
-pub record HasRow (file : TableFile) (table age : ℕ) : Type 0 where
-  pub table_in : table < length file.tables
-  pub from_first : first_age_of file table ≤ age
-  pub to_last : age ≤ last_age_of file table

@@ -2,10 +2,9 @@
 use Rattle.std.specs.Prelude.{◌↔◌, IsTrue, ℕ, ◌<◌, ◌≤◌, max, List, get_or, length}
 use Rattle.halo_status.specs.Tree.{Tree, Trees, life, term, joint, last, at_least, exactly, after, none, more}
 use Rattle.halo_status.specs.Naming.{any_names_life, any_names_term, names_life, names_term}
-use Rattle.halo_table.specs.DecrementTable.{TableFile}
+use Rattle.halo_table.specs.DecrementTable.{TableFile, HasRow}
 use Rattle.halo_table.specs.declared.lives.Life.{Life}
 use Rattle.halo_model.specs.Life.{PlainLife}
-use Rattle.halo_model.specs.FromTables.{HasRow}
 
 -- for how many years the table of life i goes on, 0 for a life that there is not
 abbrev pub years_left_of : List PlainLife → ℕ → ℕ

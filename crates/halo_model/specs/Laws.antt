@@ -3,11 +3,11 @@ use Rattle.std.specs.Prelude.{◌≡◌, ℕ, ◌≤◌, All, Bool, List, length
 use Rattle.halo_sums.specs.Sums.{int_sum_over, sum_over}
 use Rattle.halo_sums.specs.Sets.{sets}
 use Rattle.halo_sums.specs.Coefficients.{coefficient}
-use Rattle.halo_table.specs.DecrementTable.{TableFile}
+use Rattle.halo_table.specs.DecrementTable.{TableFile, HasRow}
 use Rattle.halo_table.specs.Sound.{IsSound}
 use Rattle.halo_table.specs.declared.lives.Life.{Life}
 use Rattle.halo_model.specs.Life.{AreLives, PlainLife}
-use Rattle.halo_model.specs.FromTables.{HasRow, lives_of}
+use Rattle.halo_model.specs.FromTables.{lives_of}
 use Rattle.halo_model.specs.Outcome.{joint_survivors, outcomes, weight}
 use Rattle.halo_model.specs.There.{there_at}
 use Rattle.halo_model.specs.Expectation.{all_there, exactly_there, expected}

@@ -5,6 +5,7 @@ pub mod There
 pub mod Order
 pub mod Event
 pub mod Basis
+pub mod ContractBasis
 pub mod Payment
 pub mod Value
 pub mod Premium

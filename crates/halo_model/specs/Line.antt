@@ -7,7 +7,8 @@ use Rattle.halo_status.specs.Tree.{Tree}
 use Rattle.halo_status.specs.Pay.{PlainPay}
 use Rattle.halo_model.specs.Basis.{Basis}
 use Rattle.halo_model.specs.Enclosed.{EnclosesBenefits, EnclosesPremium, EnclosesReserve}
-use Rattle.halo_model.specs.Premium.{all_lives, premium_denominator, premium_numerator, reserve_denominator, reserve_numerator}
+use Rattle.halo_model.specs.Premium.{premium_denominator, premium_numerator, reserve_denominator, reserve_numerator}
+use Rattle.halo_contract.specs.Premium.{all_lives}
 use Rattle.halo_model.specs.Value.{denominator, numerator, total_numerator}
 use Rattle.halo_model.specs.Widths.{printed_pay_width, printed_premium_width, printed_reserve_width, printed_total_width}
 

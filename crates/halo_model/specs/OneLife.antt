@@ -8,7 +8,7 @@ use Rattle.halo_model.specs.Life.{IsLife, PlainLife, leavers_by}
 use Rattle.halo_model.specs.Basis.{Basis, accumulated, discounted}
 use Rattle.halo_model.specs.Chance.{asked}
 use Rattle.halo_model.specs.Payment.{payment}
-use Rattle.halo_model.specs.Premium.{all_lives}
+use Rattle.halo_contract.specs.Premium.{all_lives}
 use Rattle.halo_model.specs.Value.{denominator, numerator}
 
 -- The annuity-due on the one life x of a contract: the sum over the times of the payment,

@@ -6,7 +6,8 @@ use Rattle.halo_status.specs.Pay.{PlainPay}
 use Rattle.halo_model.specs.Life.{AreLives}
 use Rattle.halo_model.specs.Outcome.{Outcome, joint_survivors}
 use Rattle.halo_model.specs.Event.{Event, leavings, term_ends}
-use Rattle.halo_model.specs.Order.{Ties, orders_taken, rank_in}
+use Rattle.halo_model.specs.Order.{orders_taken, rank_in}
+use Rattle.halo_contract.specs.declared.ties.Ties.{Ties}
 use Rattle.halo_model.specs.Basis.{Basis, accumulated, taken}
 use Rattle.halo_model.specs.Payment.{falls_on}
 use Rattle.halo_model.specs.Horizon.{horizon}

@@ -2,11 +2,8 @@
 use Rattle.std.specs.Prelude.{ℕ, nat_eq, List, [], ◌∷◌, flat_map, map}
 use Rattle.std.specs.List.{position_or_len}
 use Rattle.halo_sums.specs.Sums.{numbers_from}
-
--- the rule for ties: the order in which the lives are declared, or all orders, each with equal chance
-pub data Ties : Type 0 where
-  declared_order : Ties
-  all_orders : Ties
+use Rattle.halo_contract.specs.declared.ties.Ties.{Ties}
+use Rattle.halo_contract.specs.declared.ties.Ties.TheVariants.{Declared, Even}
 
 -- a list with x put in at each place
 abbrev pub insertions : ℕ → List ℕ → List (List ℕ)
@@ -18,10 +15,11 @@ abbrev pub orders : List ℕ → List (List ℕ)
 orders [] = [] ∷ []
 orders (x ∷ xs) = flat_map (insertions x) (orders xs)
 
--- the orders taken of n lives, each a list of their numbers
+-- the orders taken of n lives, each a list of their numbers: the one in which they are declared, or
+-- with even ties all orders, each with equal chance
 abbrev pub orders_taken : Ties → ℕ → List (List ℕ)
-orders_taken declared_order n = numbers_from 0 n ∷ []
-orders_taken all_orders n = orders (numbers_from 0 n)
+orders_taken Declared n = numbers_from 0 n ∷ []
+orders_taken Even n = orders (numbers_from 0 n)
 
 -- the rank of a life in an order: how many stand before it
 abbrev pub rank_in : List ℕ → ℕ → ℕ

@@ -5,7 +5,9 @@ use Rattle.halo_sums.specs.Sums.{int_sum_over, numbers_from, product_over, sum_o
 use Rattle.halo_sums.specs.Choices.{choose}
 use Rattle.halo_sums.specs.Sets.{in_set}
 use Rattle.halo_model.specs.Life.{PlainLife, leavers_by}
-use Rattle.halo_model.specs.Order.{Ties, all_orders, orders_taken, rank_in}
+use Rattle.halo_model.specs.Order.{orders_taken, rank_in}
+use Rattle.halo_contract.specs.declared.ties.Ties.{Ties}
+use Rattle.halo_contract.specs.declared.ties.Ties.TheVariants.{Even}
 use Rattle.halo_model.specs.EvenTies.{YearNumbers, factorial, first_leaving, first_leaving_evenly, lives_in, without}
 use Rattle.halo_model.specs.Expectation.{all_there_at_leaving, looked_at}
 
@@ -19,7 +21,7 @@ exactly_before order a early lives = list_all
 abbrev pub OrdersCounted : Type 0
 OrdersCounted = (n a : ℕ)
     → a < n → (S J : ℕ → Bool) → S a ≡ false → ((i : ℕ) → J i ≡ true → S i ≡ true)
-    → length (filter (λ order. exactly_before order a J (lives_in n S)) (orders_taken all_orders n))
+    → length (filter (λ order. exactly_before order a J (lives_in n S)) (orders_taken Even n))
     * (suc (length (lives_in n S)) * choose (length (lives_in n S)) (length (lives_in n J)))
     ≡ factorial n
 
@@ -43,7 +45,7 @@ sum_of_choices early late (i ∷ lives) (suc j) =
 -- of which 1 has n! (s + 1)!.
 abbrev pub MeanOverOrders : Type 0
 MeanOverOrders = (n a : ℕ) → a < n → (S : ℕ → Bool) → S a ≡ false → (early late : ℕ → ℕ)
-    → sum_over (orders_taken all_orders n)
+    → sum_over (orders_taken Even n)
     (λ order. product_by_rank early late (rank_in order) a (lives_in n S))
     * factorial (suc (length (lives_in n S)))
     ≡ factorial n * sum_over (numbers_from 0 (suc (length (lives_in n S)))) (λ j.

@@ -1,19 +1,10 @@
 -- Net premiums and prospective reserves, as fractions.
-use Rattle.std.specs.Prelude.{ℕ, ◌*◌, Bool, true, List, Option, Some, None, ℤ, pos, ◌-ℤ◌}
+use Rattle.std.specs.Prelude.{ℕ, ◌*◌, Bool, List, Option, Some, None, ℤ, pos, ◌-ℤ◌}
 use Rattle.halo_status.specs.Tree.{Tree}
 use Rattle.halo_status.specs.Pay.{PlainPay}
-use Rattle.halo_status.specs.declared.pay.Kind.TheVariants.{Due}
-use Rattle.halo_status.specs.declared.pay.Vary.TheVariants.{Level}
+use Rattle.halo_contract.specs.Premium.{all_lives, premium_pay}
 use Rattle.halo_model.specs.Basis.{Basis}
 use Rattle.halo_model.specs.Value.{denominator, numerator, total_numerator}
-
--- all lives, as they are alive at the start
-abbrev pub all_lives : ℕ → Bool
-all_lives i = true
-
--- what a premium of 1 pays: 1 each year in advance while a status exists
-abbrev pub premium_pay : Tree → PlainPay
-premium_pay status = record { amount = 1; vary = Level; kind = Due; defer = 0; causes = None; body = status; mark = None }
 
 -- the net premium of some pays is premium_numerator / premium_denominator: their value over that of a premium of 1, at the start
 unfoldable pub premium_numerator : Basis → List PlainPay → ℕ

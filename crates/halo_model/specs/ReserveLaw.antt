@@ -6,7 +6,7 @@ use Rattle.halo_model.specs.Life.{AreLives, after_first}
 use Rattle.halo_model.specs.Outcome.{Outcome, joint_survivors}
 use Rattle.halo_model.specs.There.{there}
 use Rattle.halo_model.specs.Basis.{Basis}
-use Rattle.halo_model.specs.Premium.{all_lives}
+use Rattle.halo_contract.specs.Premium.{all_lives}
 use Rattle.halo_model.specs.Value.{outcome_value, ranked_numerator}
 use Rattle.halo_model.specs.Expectation.{expected}
 

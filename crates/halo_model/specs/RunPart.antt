@@ -12,7 +12,7 @@ use Rattle.halo_model.specs.Basis.{Basis, discounted, taken}
 use Rattle.halo_model.specs.Coefficient.{form}
 use Rattle.halo_model.specs.Horizon.{horizon}
 use Rattle.halo_model.specs.Segment.{AreSegments, Run, last_time_of_form}
-use Rattle.halo_model.specs.Premium.{all_lives}
+use Rattle.halo_contract.specs.Premium.{all_lives}
 use Rattle.halo_model.specs.Value.{numerator}
 use Rattle.halo_model.specs.Backward.{outside, paid_at}
 

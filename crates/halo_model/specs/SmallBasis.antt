@@ -7,9 +7,9 @@ use Rattle.halo_status.specs.declared.pay.Kind.TheVariants.{Insurance}
 use Rattle.halo_status.specs.declared.pay.Vary.TheVariants.{Level}
 use Rattle.halo_table.specs.DecrementTable.{DecrementRow, TableFile}
 use Rattle.halo_model.specs.FromTables.{life_of}
-use Rattle.halo_model.specs.Order.{declared_order}
+use Rattle.halo_contract.specs.declared.ties.Ties.TheVariants.{Declared}
 use Rattle.halo_model.specs.Basis.{Basis}
-use Rattle.halo_model.specs.Premium.{all_lives}
+use Rattle.halo_contract.specs.Premium.{all_lives}
 use Rattle.halo_model.specs.Value.{denominator, numerator}
 
 abbrev pub row : ℕ → List ℕ → DecrementRow
@@ -28,7 +28,7 @@ two_causes =
 -- three lives aged 60 in the table of a file, at the interest 1/1, up to time 3, when nobody is alive any more
 abbrev pub small_basis : TableFile → Basis
 small_basis file =
-    record { p = λ k. 1; q = λ k. 1; last_time = 3; lives = life_of file 0 60 ∷ life_of file 0 60 ∷ life_of file 0 60 ∷ []; ties = declared_order }
+    record { p = λ k. 1; q = λ k. 1; last_time = 3; lives = life_of file 0 60 ∷ life_of file 0 60 ∷ life_of file 0 60 ∷ []; ties = Declared }
 
 -- a level pay of 1, without deferral, causes or mark
 abbrev pub plain : Kind → Tree → PlainPay

@@ -6,7 +6,7 @@ use Rattle.halo_status.specs.Tree.{Tree}
 use Rattle.halo_status.specs.Pay.{PlainPay}
 use Rattle.halo_model.specs.Basis.{Basis}
 use Rattle.halo_model.specs.Counts.{measures_of, most_worth, width_count}
-use Rattle.halo_model.specs.Premium.{premium_pay}
+use Rattle.halo_contract.specs.Premium.{premium_pay}
 
 -- a width in fine units, printed outward
 abbrev pub printed_width : ℕ → ℕ

@@ -4,7 +4,7 @@ use Rattle.halo_status.specs.Tree.{joint, at_least, more}
 use Rattle.halo_status.specs.Pay.{PlainPay}
 use Rattle.halo_status.specs.declared.pay.Kind.TheVariants.{Due, Immediate}
 use Rattle.halo_model.specs.Life.{PlainLife}
-use Rattle.halo_model.specs.Order.{declared_order}
+use Rattle.halo_contract.specs.declared.ties.Ties.TheVariants.{Declared}
 use Rattle.halo_model.specs.Basis.{Basis}
 use Rattle.halo_model.specs.Counts.{measures_of, width_count}
 use Rattle.halo_model.specs.Horizon.{horizon}
@@ -42,7 +42,7 @@ even_leaver n = record { years_left = n; causes = 1; survivors = λ t. n - t; le
 
 -- two such lives, of 60 and of 50, without interest
 abbrev pub long_basis : Basis
-long_basis = record { p = λ k. 0; q = λ k. 1; last_time = 60; lives = even_leaver 60 ∷ even_leaver 50 ∷ []; ties = declared_order }
+long_basis = record { p = λ k. 0; q = λ k. 1; last_time = 60; lives = even_leaver 60 ∷ even_leaver 50 ∷ []; ties = Declared }
 
 pub record LongRows : Type 0 where
   pub horizon_of_both : horizon long_basis.lives (joint (both x y)) ≡ 60

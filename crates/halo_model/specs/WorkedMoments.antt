@@ -5,7 +5,7 @@ use Rattle.halo_status.specs.Tree.{joint}
 use Rattle.halo_status.specs.Pay.{PlainPay}
 use Rattle.halo_status.specs.declared.pay.Kind.TheVariants.{Insurance}
 use Rattle.halo_model.specs.Basis.{accumulated}
-use Rattle.halo_model.specs.Premium.{all_lives}
+use Rattle.halo_contract.specs.Premium.{all_lives}
 use Rattle.halo_model.specs.SecondMoment.{second_moment}
 use Rattle.halo_model.specs.SmallBasis.{both, marked, plain}
 use Rattle.halo_model.specs.Value.{denominator}

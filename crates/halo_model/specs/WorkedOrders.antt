@@ -1,7 +1,8 @@
 -- Worked numbers of orders: lives of whom half leave in a year.
 use Rattle.std.specs.Prelude.{◌≡◌, ℕ, Bool, true, cond, nat_eq, nat_lt, [], ◌∷◌, filter, length}
 use Rattle.halo_sums.specs.Sums.{sum_over}
-use Rattle.halo_model.specs.Order.{all_orders, orders_taken, rank_in}
+use Rattle.halo_model.specs.Order.{orders_taken, rank_in}
+use Rattle.halo_contract.specs.declared.ties.Ties.TheVariants.{Even}
 use Rattle.halo_model.specs.EvenTies.{YearNumbers, first_leaving, first_leaving_evenly}
 use Rattle.halo_model.specs.OrderLaws.{exactly_before, product_by_rank}
 
@@ -24,6 +25,6 @@ pub record OrderRows : Type 0 where
   pub first_of_three : first_leaving_evenly 3 (halves (λ i. nat_eq i 0)) (first_lives 3) ≡ 14
   pub some_of_two : first_leaving_evenly 2 (halves (λ i. true)) (first_lives 2) ≡ 6
   pub one_before : length (filter (λ order. exactly_before order 0 (λ i. nat_eq i 1) (1 ∷ 2 ∷ []))
-      (orders_taken all_orders 4)) ≡ 4
-  pub mean_of_three : sum_over (orders_taken all_orders 3)
+      (orders_taken Even 4)) ≡ 4
+  pub mean_of_three : sum_over (orders_taken Even 3)
       (λ order. product_by_rank (λ i. 1) (λ i. 2) (rank_in order) 0 (1 ∷ 2 ∷ [])) ≡ 14

@@ -3,7 +3,7 @@ use Rattle.std.specs.Prelude.{◌≡◌, ◌*◌, nat_eq, [], ◌∷◌, get_or,
 use Rattle.halo_status.specs.Tree.{Tree, life, term, joint, last, at_least, exactly, after, more}
 use Rattle.halo_status.specs.declared.pay.Kind.TheVariants.{Insurance, Due, Immediate}
 use Rattle.halo_status.specs.declared.pay.Vary.TheVariants.{Increasing, Decreasing}
-use Rattle.halo_model.specs.Order.{all_orders}
+use Rattle.halo_contract.specs.declared.ties.Ties.TheVariants.{Even}
 use Rattle.halo_model.specs.Basis.{Basis}
 use Rattle.halo_model.specs.Premium.{premium_denominator, premium_numerator, reserve_denominator, reserve_numerator}
 use Rattle.halo_model.specs.SmallBasis.{IsWorth, both, marked, one_cause, plain, small_basis, two_causes}
@@ -70,7 +70,7 @@ pub record CauseRows : Type 0 where
 
 -- the lives of one year leave in each order with equal chance
 abbrev pub even_basis : Basis
-even_basis = record basis { ties = all_orders }
+even_basis = record basis { ties = Even }
 
 pub record EvenRows : Type 0 where
   pub x_first : IsWorth even_basis (marked 0 1 (joint (both x y))) 21484375 100000000

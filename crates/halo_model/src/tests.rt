@@ -1,7 +1,7 @@
 ghost use Rattle.std.specs.Prelude.{◌≤◌, [], ◌∷◌, IfOk, ◌≡◌};
 ghost use Rattle.halo_status.specs.StatusTree.{tree_of};
 ghost use Rattle.halo_status.specs.Tree.{joint, life, more, none, term};
-ghost use Rattle.halo_model.specs.FromTables.{HasRow};
+ghost use Rattle.halo_table.specs.DecrementTable.{HasRow};
 
 use crate::horizon;
 use halo_status::{Members, Memory, Status};

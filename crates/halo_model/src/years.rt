@@ -1,10 +1,9 @@
 // The horizon of a status.
 ghost use Rattle.std.specs.Prelude.{◌≡◌, ◌<◌, ◌≤◌, length};
 ghost use Rattle.halo_status.specs.StatusTree.{tree_of, trees_in};
-ghost use Rattle.halo_table.specs.DecrementTable.{last_age_of};
-ghost use Rattle.halo_model.specs.FromTables.{HasRow, life_of, lives_of};
-ghost use Rattle.halo_model.specs.Horizon.{HasRows, HasShortTerms, HaveRows, HaveShortTerms};
-ghost use Rattle.halo_model.specs.Horizon.{horizon, longest, longest_of, years_left_of};
+ghost use Rattle.halo_table.specs.DecrementTable.{last_age_of, HasRow};
+ghost use Rattle.halo_model.specs.FromTables.{life_of, lives_of};
+ghost use Rattle.halo_model.specs.Horizon.{HasRows, HasShortTerms, HaveRows, HaveShortTerms, horizon, longest, longest_of, years_left_of};
 
 use halo_status::{Members, Status};
 use halo_table::{Life, Tables};

@@ -4,7 +4,7 @@ use Rattle.std.proofs.lemmas.List.{map_more, take-map}
 use Rattle.std.proofs.lemmas.List.Sums.{sum_by-take-le, sum_by_push}
 use Rattle.halo_status.specs.Pay.{PlainPay, pay_of}
 use Rattle.halo_status.specs.declared.pay.Pay.{Pay}
-use Rattle.halo_parse.specs.Draft.{amount_of_all}
+use Rattle.halo_contract.specs.PlainContract.{amount_of_all}
 
 pub amounts_more : (pays : List Pay) (k : ℕ) (d : Pay) → k < length pays → amount_of_all (map pay_of (take (k + 1) pays)) ≡ amount_of_all (map pay_of (take k pays)) + (get_or pays k d).amount
 amounts_more pays k d lt = ap amount_of_all (map_more pay_of pays k d lt) ∙ sum_by_push (λ (pay : PlainPay). pay.amount) (map pay_of (take k pays)) (pay_of (get_or pays k d))

@@ -9,7 +9,7 @@ use Rattle.halo_status.specs.StatusTree.{tree_of}
 use Rattle.halo_status.specs.View.{is_on}
 use Rattle.halo_status.specs.declared.pay.Pay.{Pay}
 use Rattle.halo_status.specs.declared.view.View.TheVariants.{Due}
-use Rattle.halo_model.specs.Premium.{all_lives}
+use Rattle.halo_contract.specs.Premium.{all_lives}
 use Rattle.halo_table.specs.DecrementTable.{TableFile}
 use Rattle.halo_parse.specs.Addition.{Adds}
 use Rattle.halo_parse.specs.Checks.{ExistsAtStart, status_tree}

@@ -8,11 +8,12 @@ use Rattle.halo_status.specs.Tree.{Tree}
 use Rattle.halo_table.specs.DecrementTable.{TableFile}
 use Rattle.halo_parse.specs.Addition.{Adds, NamesLowLives}
 use Rattle.halo_parse.specs.Checks.{HasLives, status_tree, symbol_tree}
-use Rattle.halo_parse.specs.Draft.{Draft, life_names}
+use Rattle.halo_parse.specs.Draft.{Draft}
+use Rattle.halo_contract.specs.PlainContract.{life_names}
 use Rattle.halo_parse.specs.Line.{Line, interest, life, ties, pay, premium, reserve}
 use Rattle.halo_parse.specs.declared.addition.Addition.{Addition}
 use Rattle.halo_parse.specs.declared.addition.Addition.TheVariants as addition
-use Rattle.halo_parse.specs.declared.contract.LifeLine.{LifeLine}
+use Rattle.halo_contract.specs.declared.contract.LifeLine.{LifeLine}
 use Rattle.halo_parse.proofs.LivesPlaced.{placed-body, placed-content}
 
 low : (n : ℕ) (s t : Tree) → n ≤ 12 → t ≡ s → NamesLivesBelow n s → NamesLivesBelow 16 t

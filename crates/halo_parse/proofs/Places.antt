@@ -5,10 +5,10 @@ use Rattle.std.specs.Prelude.{Contains, IfNone, IfSome, IsTrue, None, Option, So
 use Rattle.std.proofs.lemmas.List.{get_or_default, get_or-map, length-map}
 use Rattle.std.proofs.lemmas.List.Sums.{passes_at_first, position_or_len_is}
 use Rattle.std.proofs.lemmas.Slice.Eq.{bytes_eq-Decides}
-use Rattle.halo_table.specs.DecrementTable.{DecrementTable, TableFile, cause_of, empty_table, name_of, names_of}
-use Rattle.halo_model.specs.FromTables.{HasRow}
-use Rattle.halo_parse.specs.Draft.{life_names, place_of}
-use Rattle.halo_parse.specs.declared.contract.LifeLine.{LifeLine}
+use Rattle.halo_table.specs.DecrementTable.{DecrementTable, TableFile, cause_of, empty_table, name_of, names_of, HasRow}
+use Rattle.halo_parse.specs.Draft.{place_of}
+use Rattle.halo_contract.specs.PlainContract.{life_names}
+use Rattle.halo_contract.specs.declared.contract.LifeLine.{LifeLine}
 use Rattle.halo_parse.proofs.Tests.{some_iff}
 
 -- a name that stands at a place is among the names

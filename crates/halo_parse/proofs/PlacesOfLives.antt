@@ -6,8 +6,9 @@ use Rattle.std.proofs.lemmas.Bool.{cases_Bool}
 use Rattle.std.proofs.lemmas.List.{get_or-map, get_or_default}
 use Rattle.std.proofs.lemmas.List.Sums.{passes_at_first, position_or_len_is}
 use Rattle.std.proofs.lemmas.Slice.Eq.{bytes_eq-Decides}
-use Rattle.halo_parse.specs.Draft.{life_names, place_of}
-use Rattle.halo_parse.specs.declared.contract.LifeLine.{LifeLine}
+use Rattle.halo_parse.specs.Draft.{place_of}
+use Rattle.halo_contract.specs.PlainContract.{life_names}
+use Rattle.halo_contract.specs.declared.contract.LifeLine.{LifeLine}
 
 -- none of the names before a place is this one
 abbrev pub NoneBefore : List (List ℕ) → ℕ → List ℕ → Type 0

@@ -5,7 +5,7 @@ use Rattle.std.specs.List.{list_all, list_any}
 use Rattle.std.proofs.lemmas.Bool.Decides.{nat_tests}
 use Rattle.halo_status.specs.Exists.{each_exists, exists}
 use Rattle.halo_sums.specs.Sums.{count_true}
-use Rattle.halo_model.specs.Premium.{all_lives}
+use Rattle.halo_contract.specs.Premium.{all_lives}
 use Rattle.halo_status.specs.Naming.{NamesLivesBelow, any_names_life, names_life}
 use Rattle.halo_sums.specs.Masks.{has_bit}
 use Rattle.halo_status.specs.Tree.{Tree, Trees, life, term, joint, last, at_least, exactly, after, none, more}

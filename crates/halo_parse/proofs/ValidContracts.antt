@@ -5,13 +5,14 @@ use Rattle.std.proofs.lemmas.List.Elements.{All-nil, All-push, All-weaker}
 use Rattle.halo_status.specs.Pay.{PlainPay}
 use Rattle.halo_table.specs.DecrementTable.{TableFile}
 use Rattle.halo_parse.specs.Checks.{PassesAll}
-use Rattle.halo_parse.specs.ContractLaws.{ContractsAreValid, HasValidPays, IsValidAmong, IsValidPremium}
+use Rattle.halo_parse.specs.ContractLaws.{ContractsAreValid, HasValidPays}
+use Rattle.halo_contract.specs.ValidContract.{IsValidAmong, IsValidPremium}
 use Rattle.halo_parse.specs.Draft.{Draft, empty_draft, with_line}
 use Rattle.halo_parse.specs.Faults.{MakesDraft}
 use Rattle.halo_parse.specs.FileLines.{lines_of}
 use Rattle.halo_parse.specs.Line.{Line, interest, life, ties, pay, premium, reserve}
 use Rattle.halo_parse.specs.ProperLine.{IsProperLine}
-use Rattle.halo_parse.specs.declared.contract.LifeLine.{LifeLine}
+use Rattle.halo_contract.specs.declared.contract.LifeLine.{LifeLine}
 use Rattle.halo_parse.proofs.ValidPays.{pays_are_valid, premiums_are_valid}
 
 -- what is valid among some lives is so among more

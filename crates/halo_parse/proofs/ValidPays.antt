@@ -16,7 +16,8 @@ use Rattle.halo_text.specs.Number.{number}
 use Rattle.halo_parse.specs.Checks.{FallsFromSome, OfMembers}
 use Rattle.halo_parse.specs.ContractLaws.{PaysAreValid, PremiumsAreValid}
 use Rattle.halo_sums.specs.SetMasks.{mask_of}
-use Rattle.halo_parse.specs.Draft.{all_names, causes_of, defer_of, is_among, life_names, mark_of, mask_of_names, place_of, vary_of}
+use Rattle.halo_parse.specs.Draft.{all_names, causes_of, defer_of, is_among, mark_of, mask_of_names, place_of, vary_of}
+use Rattle.halo_contract.specs.PlainContract.{life_names}
 use Rattle.halo_parse.specs.Limits.{any_life, IsUpTo, IsVaryWithin}
 use Rattle.halo_parse.specs.declared.fault.ContractKind.TheVariants as kind
 use Rattle.halo_parse.proofs.Lengths.{lengths-body, lengths-content}

@@ -4,11 +4,11 @@ use Rattle.halo_text.specs.Number.{number}
 use Rattle.halo_status.specs.Naming.{NamesLivesBelow}
 use Rattle.halo_status.specs.Pay.{pay_of}
 use Rattle.halo_status.specs.StatusTree.{tree_of}
-use Rattle.halo_table.specs.DecrementTable.{TableFile, names_of}
-use Rattle.halo_model.specs.FromTables.{HasRow}
-use Rattle.halo_model.specs.Premium.{premium_pay}
+use Rattle.halo_table.specs.DecrementTable.{TableFile, names_of, HasRow}
+use Rattle.halo_contract.specs.Premium.{premium_pay}
 use Rattle.halo_symbol.specs.StatusOf.{tree_of_body}
-use Rattle.halo_parse.specs.Draft.{Draft, amount_of_all, life_names, mask_of_names, pay_written, place_of, rate_from}
+use Rattle.halo_parse.specs.Draft.{Draft, mask_of_names, pay_written, place_of, rate_from}
+use Rattle.halo_contract.specs.PlainContract.{amount_of_all, life_names}
 use Rattle.halo_parse.specs.Line as line
 use Rattle.halo_parse.specs.Line.{Line}
 use Rattle.halo_parse.specs.declared.addition.Addition.{Addition}

@@ -9,13 +9,13 @@ use Rattle.halo_status.specs.ValidPay.{AreApart, HasRank, IsRank}
 use Rattle.halo_status.specs.View.{is_on}
 use Rattle.halo_status.specs.declared.pay.Kind.TheVariants.{Insurance}
 use Rattle.halo_status.specs.declared.view.View.TheVariants.{Due}
-use Rattle.halo_table.specs.DecrementTable.{TableFile, last_age_of, names_of}
-use Rattle.halo_model.specs.FromTables.{HasRow}
-use Rattle.halo_model.specs.Premium.{all_lives}
+use Rattle.halo_table.specs.DecrementTable.{TableFile, last_age_of, names_of, HasRow}
+use Rattle.halo_contract.specs.Premium.{all_lives}
 use Rattle.halo_symbol.specs.Tree.{Node, life, term, Body}
 use Rattle.halo_symbol.specs.Symbol.{Vary, decreasing, Symbol}
 use Rattle.halo_symbol.specs.StatusOf.{tree_of_body, tree_of_symbol}
-use Rattle.halo_parse.specs.Draft.{Draft, all_names, amount_of_all, life_names, place_of}
+use Rattle.halo_parse.specs.Draft.{Draft, all_names, place_of}
+use Rattle.halo_contract.specs.PlainContract.{amount_of_all, life_names}
 use Rattle.halo_parse.specs.Forms.{CameBefore, IsInOrder, form_of}
 use Rattle.halo_parse.specs.Limits.{IsRateWithin, IsShortName, IsStatusWithin, IsSymbolWithin, IsUpTo}
 use Rattle.halo_parse.specs.Line as line

@@ -1,5 +1,5 @@
--- A contract as plain data, and what a line adds to the lines before it.
-use Rattle.std.specs.Prelude.{ℕ, ◌+◌, ◌*◌, List, [], ◌∷◌, ◌++◌, Bool, Option, None, Some, bytes_eq, cond, map, sum_by}
+-- What the lines of a contract file have said, and what a line adds to those before it.
+use Rattle.std.specs.Prelude.{ℕ, ◌+◌, ◌*◌, List, [], ◌∷◌, ◌++◌, Bool, Option, None, Some, bytes_eq, map, unwrap_or}
 use Rattle.std.specs.List.{list_any, position_or_len}
 use Rattle.halo_sums.specs.SetMasks.{mask_of}
 use Rattle.halo_text.specs.Number.{number}
@@ -8,15 +8,17 @@ use Rattle.halo_status.specs.Pay.{PlainPay}
 use Rattle.halo_status.specs.declared.pay.Vary.{Vary}
 use Rattle.halo_status.specs.declared.pay.Vary.TheVariants as paid
 use Rattle.halo_status.specs.declared.pay.Mark.{Mark}
-use Rattle.halo_model.specs.Premium.{premium_pay}
+use Rattle.halo_contract.specs.Premium.{premium_pay}
 use Rattle.halo_table.specs.DecrementTable.{TableFile, names_of}
 use Rattle.halo_symbol.specs.Symbol as written
 use Rattle.halo_symbol.specs.Symbol.{Names, Symbol, level, increasing, decreasing}
 use Rattle.halo_symbol.specs.StatusOf.{tree_of_body, tree_of_symbol}
 use Rattle.halo_parse.specs.Line.{Line, interest, life, ties, pay, premium, reserve, LaterRate}
-use Rattle.halo_parse.specs.declared.contract.LifeLine.{LifeLine}
-use Rattle.halo_parse.specs.declared.contract.ReserveLine.{ReserveLine}
-use Rattle.halo_parse.specs.declared.ties.Ties.{Ties}
+use Rattle.halo_contract.specs.declared.contract.LifeLine.{LifeLine}
+use Rattle.halo_contract.specs.declared.contract.ReserveLine.{ReserveLine}
+use Rattle.halo_contract.specs.PlainContract.{PlainContract, life_names}
+use Rattle.halo_contract.specs.declared.ties.Ties.{Ties}
+use Rattle.halo_contract.specs.declared.ties.Ties.TheVariants.{Declared}
 
 -- what some lines of a contract have said so far
 pub record Draft : Type 0 where
@@ -34,10 +36,6 @@ pub record Draft : Type 0 where
 -- what is said before the first line
 abbrev pub empty_draft : Draft
 empty_draft = record { interest = None; lives = []; ties = None; pays = []; premium = None; reserves = [] }
-
--- the names of some lives
-abbrev pub life_names : List LifeLine → List (List ℕ)
-life_names lives = map (λ line. line.name) lives
 
 -- whether a name is one of some names
 abbrev pub is_among : List (List ℕ) → List ℕ → Bool
@@ -103,6 +101,14 @@ with_line tables d (premium status) = record d { premium = Some (premium_pay (tr
 with_line tables d (reserve time names) =
     record d { reserves = d.reserves ++ record { time = number time; alive = mask_of_names (life_names d.lives) names } ∷ [] }
 
--- the amounts of some pays together
-abbrev pub amount_of_all : List PlainPay → ℕ
-amount_of_all pays = sum_by (λ pay. pay.amount) pays
+-- the contract that some lines make: where no line says a rule for ties, the declared order settles
+-- them
+abbrev pub contract_made : Draft → PlainContract
+contract_made d = record {
+  interest = unwrap_or d.interest [];
+  lives = d.lives;
+  ties = unwrap_or d.ties Declared;
+  pays = d.pays;
+  premium = d.premium;
+  reserves = d.reserves;
+}

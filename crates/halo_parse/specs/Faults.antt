@@ -3,7 +3,8 @@ use Rattle.std.specs.Prelude.{◌≡◌, ◌≢◌, ℕ, None, ◌+◌, ◌<◌,
 use Rattle.halo_table.specs.DecrementTable.{TableFile}
 use Rattle.halo_parse.specs.Checks.{FailsFirst, PassesAll}
 use Rattle.halo_parse.specs.Depth.{IsShallow}
-use Rattle.halo_parse.specs.Draft.{Draft, empty_draft, with_line}
+use Rattle.halo_contract.specs.PlainContract.{PlainContract}
+use Rattle.halo_parse.specs.Draft.{Draft, contract_made, empty_draft, with_line}
 use Rattle.halo_parse.specs.FileLines.{is_silent, lines_of, words_of}
 use Rattle.halo_parse.specs.Line.{Line}
 use Rattle.halo_parse.specs.ProperLine.{SpellsLine}
@@ -46,16 +47,19 @@ FirstFaultOf tables d count (text ∷ texts) number k =
     ⊎ (IsSilent text × FirstFaultOf tables d (count + 1) texts number k)
     ⊎ ((l : Line) × IsFine tables d text l × FirstFaultOf tables (with_line tables d l) (count + 1) texts number k)
 
--- a draft that is a contract: there is an interest, a life and a pay
+-- a draft that makes a contract: there is an interest, a life and a pay
 pub record IsWhole (d : Draft) : Type 0 where
   pub interest : d.interest ≢ None
   pub life : 0 < length d.lives
   pub pay : 0 < length d.pays
 
 -- the bytes have no fault, and write this contract
-pub record WritesContract (tables : TableFile) (bytes : List ℕ) (contract : Draft) : Type 0 where
-  pub lines : MakesDraft tables empty_draft (lines_of bytes) contract
-  pub whole : IsWhole contract
+pub record WritesContract (tables : TableFile) (bytes : List ℕ) (contract : PlainContract)
+    : Type 0 where
+  pub draft : Draft
+  pub lines : MakesDraft tables empty_draft (lines_of bytes) draft
+  pub whole : IsWhole draft
+  pub made : contract ≡ contract_made draft
 
 -- where no line is faulty, but the lines make no contract, that is told of the line behind the last one
 pub record IsMissing (tables : TableFile) (bytes : List ℕ) (number : ℕ) (k : ContractKind) : Type 0 where

@@ -3,8 +3,8 @@ use Rattle.std.specs.Prelude.{ℕ, List, [], ◌∷◌, ◌++◌, codes}
 use Rattle.halo_symbol.specs.Tree.{Body}
 use Rattle.halo_symbol.specs.Symbol.{Symbol}
 use Rattle.halo_symbol.specs.Bytes.{body_bytes, symbol_bytes}
-use Rattle.halo_parse.specs.declared.ties.Ties.{Ties}
-use Rattle.halo_parse.specs.declared.ties.Ties.TheVariants as rule
+use Rattle.halo_contract.specs.declared.ties.Ties.{Ties}
+use Rattle.halo_contract.specs.declared.ties.Ties.TheVariants as rule
 
 -- a fraction P/Q of interest from a year on
 pub record LaterRate : Type 0 where

@@ -1,20 +1,17 @@
 -- What the functions answer that read the lines of a contract file.
-use Rattle.std.specs.Prelude.{◌≡◌, ◌<◌, ◌⊎◌, ℕ, List, map, Option, None, Some, Result, Ok, Err, ⊤}
-use Rattle.std.specs.Option.{option_map}
-use Rattle.halo_status.specs.Pay.{pay_of}
+use Rattle.std.specs.Prelude.{◌≡◌, ◌<◌, ◌⊎◌, ℕ, List, Result, Ok, Err, ⊤}
 use Rattle.halo_table.specs.DecrementTable.{TableFile}
 use Rattle.halo_parse.specs.Checks.{FailsFirst, Passes, place_of_check}
 use Rattle.halo_parse.specs.Draft.{Draft, with_line}
 use Rattle.halo_parse.specs.Faults.{HasFault, IsContractFault, IsFine, IsSilent, WritesContract}
 use Rattle.halo_parse.specs.Line.{Line}
-use Rattle.halo_parse.specs.declared.contract.Contract.{Contract}
+use Rattle.halo_contract.specs.declared.contract.Contract.{Contract}
 use Rattle.halo_parse.specs.declared.error.LineError.{LineError}
 use Rattle.halo_parse.specs.declared.error.LineError.TheVariants as error
 use Rattle.halo_parse.specs.declared.fault.ContractError.{ContractError}
 use Rattle.halo_parse.specs.declared.fault.ContractError.TheVariants as told
 use Rattle.halo_parse.specs.declared.fault.ContractKind.{ContractKind}
-use Rattle.halo_parse.specs.declared.ties.Ties.{Ties}
-use Rattle.halo_parse.specs.declared.ties.Ties.TheVariants as rule
+use Rattle.halo_contract.specs.PlainContract.{contract_of}
 
 -- a line passes the checks before this one
 abbrev pub PassesBefore : TableFile → Draft → Line → ContractKind → Type 0
@@ -34,22 +31,8 @@ IsToldOf tables d text error.Memory = ⊤
 abbrev pub TakesText : TableFile → Draft → List ℕ → Draft → Type 0
 TakesText tables d text next = (IsSilent text × (next ≡ d)) ⊎ ((l : Line) × IsFine tables d text l × (next ≡ with_line tables d l))
 
--- the rule for ties of a contract whose lines have said this one, or none
-abbrev pub rule_of : Option Ties → Ties
-rule_of None = rule.Declared
-rule_of (Some ties) = ties
-
--- a contract in memory is what some lines have said, field by field
-pub record HoldsDraft (contract : Contract) (d : Draft) : Type 0 where
-  pub interest : Some contract.interest ≡ d.interest
-  pub lives : contract.lives.items ≡ d.lives
-  pub ties : contract.ties ≡ rule_of d.ties
-  pub pays : map pay_of contract.pays.items ≡ d.pays
-  pub premium : option_map pay_of contract.premium ≡ d.premium
-  pub reserves : contract.reserves.items ≡ d.reserves
-
 -- the contract that the bytes write, or their first fault; want of memory tells nothing
 abbrev pub ReadsContract : TableFile → List ℕ → Result Contract ContractError → Type 0
-ReadsContract tables bytes (Ok contract) = (d : Draft) × WritesContract tables bytes d × HoldsDraft contract d
+ReadsContract tables bytes (Ok contract) = WritesContract tables bytes (contract_of contract)
 ReadsContract tables bytes (Err (told.Fault f)) = IsContractFault tables bytes f.line f.kind
 ReadsContract tables bytes (Err told.Memory) = ⊤

@@ -3,7 +3,7 @@ ghost use Rattle.std.specs.Prelude.{◌≡◌, ◌≤◌, ◌<◌, ◌↔◌, �
 ghost use Rattle.halo_text.specs.Number.{IsNumber, number};
 ghost use Rattle.halo_status.specs.Pay.{pay_of};
 ghost use Rattle.halo_parse.specs.Checks.{HasAge, HasCauses, HasLives, HasNoZero, HasRisingYears, HasTable, IsOnce, IsWithinLimits, YearsRise, IsSome};
-ghost use Rattle.halo_parse.specs.Draft.{amount_of_all, life_names};
+ghost use Rattle.halo_contract.specs.PlainContract.{amount_of_all, life_names};
 ghost use Rattle.halo_parse.specs.Forms.{IsInOrder, form_of};
 ghost use Rattle.halo_parse.specs.Limits.{IsRateWithin, IsShortName, IsUpTo};
 ghost use Rattle.halo_parse.specs.LineView.{draft_of, plain_line, plain_rate};

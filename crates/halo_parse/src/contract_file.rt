@@ -1,16 +1,17 @@
 // Whole contract files.
 ghost use Rattle.std.specs.Prelude.{◌≡◌, ◌≤◌, ◌<◌, ◌+◌, ◌^◌, IfSome, IfNone, length};
+ghost use Rattle.halo_contract.specs.PlainContract.{contract_of};
+ghost use Rattle.halo_parse.specs.Draft.{contract_made};
 ghost use Rattle.halo_parse.specs.Faults.{IsWhole};
 ghost use Rattle.halo_parse.specs.LineView.{draft_of};
-ghost use Rattle.halo_parse.specs.Reading.{HoldsDraft, ReadsContract};
+ghost use Rattle.halo_parse.specs.Reading.{ReadsContract};
 
 use crate::add_text::add_text;
-use crate::contract::Contract;
+use halo_contract::{Contract, Ties};
 use crate::draft::Draft;
 use crate::error::LineError;
 use crate::fault::{ContractError, ContractFault, ContractKind};
 use crate::file_lines::Lines;
-use crate::ties::Ties;
 use halo_table::Tables;
 use std::alloc::Global;
 
@@ -23,7 +24,8 @@ fn fault_at(line: u32, kind: ContractKind) -> ContractError
 
 // The contract that the lines have made; None where there is no interest, no life or no pay.
 fn finish(draft: Draft) -> Option<Contract>
-    ensures some { IfSome result (λ contract. IsWhole (draft_of draft) × HoldsDraft contract (draft_of draft)) }
+    ensures some { IfSome result (λ contract. IsWhole (draft_of draft)
+        × (contract_of contract ≡ contract_made (draft_of draft))) }
     ensures none { IfNone result (IsWhole (draft_of draft) → ⊥) }
 {
     if draft.lives.is_empty() || draft.pays.is_empty() {

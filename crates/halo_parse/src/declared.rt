@@ -3,11 +3,12 @@ ghost use Rattle.std.specs.Prelude.{◌≡◌, ◌<◌, ◌↔◌, ⊤, Contains
 ghost use Rattle.halo_symbol.specs.Proper.{IsProperBody};
 ghost use Rattle.halo_symbol.specs.View.{plain_body};
 ghost use Rattle.halo_parse.specs.Checks.{AreDifferent, IsDeclared};
-ghost use Rattle.halo_parse.specs.Draft.{life_names, place_of};
+ghost use Rattle.halo_parse.specs.Draft.{place_of};
+ghost use Rattle.halo_contract.specs.PlainContract.{life_names};
 ghost use Rattle.halo_parse.specs.Parts.{AtEachNode};
 
 use crate::Memory;
-use crate::contract::LifeLine;
+use halo_contract::LifeLine;
 use crate::parts::{PartTest, body_passes};
 use halo_symbol::{Body, Members, Node};
 use std::alloc::Global;

@@ -8,8 +8,7 @@ ghost use Rattle.halo_parse.specs.LineView.{draft_of};
 
 use crate::Memory;
 use crate::addition::Addition;
-use crate::contract::{LifeLine, ReserveLine};
-use crate::ties::Ties;
+use halo_contract::{LifeLine, ReserveLine, Ties};
 use halo_interest::Interest;
 use halo_status::Pay;
 use std::alloc::Global;

@@ -1,6 +1,6 @@
 // The first check that a line does not pass, up to those of statuses.
 ghost use Rattle.std.specs.Prelude.{◌≡◌, ◌≤◌, ◌<◌, ◌^◌, IfOk, IfErr, MatchResult};
-ghost use Rattle.halo_parse.specs.Draft.{amount_of_all};
+ghost use Rattle.halo_contract.specs.PlainContract.{amount_of_all};
 ghost use Rattle.halo_parse.specs.LineView.{draft_of, plain_line};
 ghost use Rattle.halo_parse.specs.ProperLine.{IsProperLine};
 ghost use Rattle.halo_parse.specs.Reading.{FailsWith, PassesBefore};

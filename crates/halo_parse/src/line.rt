@@ -1,5 +1,5 @@
 // The lines of a contract file, as they are written.
-use crate::ties::Ties;
+use halo_contract::Ties;
 use halo_symbol::{Body, Symbol};
 
 /// A fraction P/Q of interest from a year on, in digits.

@@ -1,9 +1,10 @@
 // Sets of names as masks.
 ghost use Rattle.std.specs.Prelude.{◌≡◌, ◌≤◌, length, map};
 ghost use Rattle.halo_symbol.specs.SymbolView.{plain_names};
-ghost use Rattle.halo_parse.specs.Draft.{all_names, is_among, life_names, mask_of_names};
+ghost use Rattle.halo_parse.specs.Draft.{all_names, is_among, mask_of_names};
+ghost use Rattle.halo_contract.specs.PlainContract.{life_names};
 
-use crate::contract::LifeLine;
+use halo_contract::LifeLine;
 use halo_symbol::Names;
 use halo_table::Tables;
 

@@ -2,17 +2,17 @@
 ghost use Rattle.std.specs.Prelude.{◌≡◌, ◌≤◌, ◌<◌, ◌↔◌, All, Contains, IfNone, IfOk, IfSome, IsTrue, length, map};
 ghost use Rattle.std.specs.Option.{option_map};
 ghost use Rattle.halo_text.specs.Number.{IsNumber, number};
-ghost use Rattle.halo_table.specs.DecrementTable.{names_of};
-ghost use Rattle.halo_model.specs.FromTables.{HasRow};
+ghost use Rattle.halo_table.specs.DecrementTable.{names_of, HasRow};
 ghost use Rattle.halo_symbol.specs.SymbolView.{plain_names};
 ghost use Rattle.halo_parse.specs.Checks.{AreDifferent, HasAge, HasCauses, HasLives, HasTable, IsOnce, IsWithinLimits};
-ghost use Rattle.halo_parse.specs.Draft.{all_names, life_names, place_of};
+ghost use Rattle.halo_parse.specs.Draft.{all_names, place_of};
+ghost use Rattle.halo_contract.specs.PlainContract.{life_names};
 ghost use Rattle.halo_parse.specs.Limits.{IsUpTo};
 ghost use Rattle.halo_parse.specs.LineView.{draft_of, plain_line};
 ghost use Rattle.halo_parse.specs.ProperLine.{IsProperLine};
 
 use crate::Memory;
-use crate::contract::LifeLine;
+use halo_contract::LifeLine;
 use crate::declared::{are_different, names_declared, place_of_life};
 use crate::draft::Draft;
 use crate::form::Form;
@@ -100,7 +100,7 @@ pub fn has_age(tables: &Tables, draft: &Draft, line: &Line<'_>) -> bool
 {
     match line {
         Line::Life { table, age, .. } => match place_of_table(tables, table) {
-            Some(table) => has_row(tables, table, age_of(age)),
+            Some(table) => tables.has_row(table, age_of(age)),
             None => false,
         },
         Line::Interest { .. } => true,
@@ -109,14 +109,6 @@ pub fn has_age(tables: &Tables, draft: &Draft, line: &Line<'_>) -> bool
         Line::Premium(_) => true,
         Line::Reserve { .. } => true,
     }
-}
-
-// Whether a table has a row at an age.
-fn has_row(tables: &Tables, table: u8, age: u16) -> bool
-    requires { table < length tables.now.tables }
-    ensures { IsTrue result ↔ HasRow tables.now table age }
-{
-    tables.first_age(table) <= age && age <= tables.last_age(table)
 }
 
 /// `NoLife`: whether each name of a life in a symbol's body, a status or a reserve was declared.

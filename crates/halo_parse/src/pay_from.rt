@@ -6,12 +6,13 @@ ghost use Rattle.halo_symbol.specs.Proper.{IsProperSymbol};
 ghost use Rattle.halo_symbol.specs.StatusOf.{tree_of_symbol};
 ghost use Rattle.halo_symbol.specs.SymbolView.{plain_symbol};
 ghost use Rattle.halo_text.specs.Number.{IsNumber};
-ghost use Rattle.halo_parse.specs.Draft.{causes_of, defer_of, life_names, mark_of, pay_written, place_of, vary_of};
+ghost use Rattle.halo_parse.specs.Draft.{causes_of, defer_of, mark_of, pay_written, place_of, vary_of};
+ghost use Rattle.halo_contract.specs.PlainContract.{life_names};
 ghost use Rattle.halo_parse.specs.Limits.{IsSymbolWithin, IsUpTo};
 ghost use Rattle.halo_parse.specs.Usable.{IsUsableSymbol};
 
 use crate::Memory;
-use crate::contract::LifeLine;
+use halo_contract::LifeLine;
 use crate::masks::mask_of_causes;
 use crate::numbers::{number_within, rank_within, years_within};
 use crate::status_from::{members_from, status_from};

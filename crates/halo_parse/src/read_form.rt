@@ -4,13 +4,13 @@ ghost use Rattle.halo_parse.specs.Line.{rule_word};
 ghost use Rattle.halo_parse.specs.LineReading.{bytes_of, keyword, NoLine};
 ghost use Rattle.halo_parse.specs.LineView.{plain_line};
 ghost use Rattle.halo_parse.specs.ProperLine.{SpellsLine};
-ghost use Rattle.halo_parse.specs.declared.ties.Ties.{Ties as TheTies};
+ghost use Rattle.halo_contract.specs.declared.ties.Ties.{Ties as TheTies};
 
 use crate::form::Form;
 use crate::interest::read_interest;
 use crate::line::Line;
 use crate::literals::{are_names, is_name, is_number, is_plain_name};
-use crate::ties::Ties;
+use halo_contract::Ties;
 use halo_symbol::{WordError, read_status, read_symbol};
 use std::alloc::Global;
 

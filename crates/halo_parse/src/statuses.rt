@@ -4,8 +4,7 @@ ghost use Rattle.halo_status.specs.Naming.{NamesLivesBelow};
 ghost use Rattle.halo_status.specs.StatusTree.{tree_of, trees_in};
 ghost use Rattle.halo_status.specs.Tree.{Trees, joint, member_count};
 ghost use Rattle.halo_status.specs.ValidPay.{AreApart, IsRank};
-ghost use Rattle.halo_model.specs.FromTables.{HasRow};
-ghost use Rattle.halo_table.specs.DecrementTable.{TableFile, last_age_of};
+ghost use Rattle.halo_table.specs.DecrementTable.{HasRow, TableFile, last_age_of};
 ghost use Rattle.halo_parse.specs.Addition.{Adds, IsKept, NamesLowLives};
 ghost use Rattle.halo_parse.specs.Checks.{AreAliveThen, ExistsAtStart, FailsFirst, HasRanks, IsLastingLine, IsWithinLimits, OfMembers, PassesAll, SharesNothingMarked};
 ghost use Rattle.halo_parse.specs.Draft.{Draft as PlainDraft};
@@ -15,7 +14,7 @@ ghost use Rattle.halo_parse.specs.ProperLine.{IsProperLine};
 ghost use Rattle.halo_parse.specs.Reading.{PassesBefore};
 
 use crate::addition::Addition;
-use crate::contract::LifeLine;
+use halo_contract::LifeLine;
 use crate::draft::Draft;
 use crate::fault::ContractKind;
 use crate::line::Line;

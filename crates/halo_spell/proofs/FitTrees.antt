@@ -1,7 +1,7 @@
 -- Trees that can be written so that they are read again: what each node of them has.
 use Rattle.std.proofs.Common.{◌≡◌, ℕ, ◌+◌, ◌≤◌, ◌<◌, Bool, true, ◌||◌, arith}
 use Rattle.std.specs.Prelude.{IsTrue, ⊤}
-use Rattle.halo_model.proofs.Agreement.{or-left, or-right, same}
+use Rattle.halo_status.proofs.Agreement.{or-left, or-right, same}
 use Rattle.halo_status.specs.Bounds.{IsShort}
 use Rattle.halo_status.specs.Naming.{AnyNamesLivesBelow, NamesLivesBelow, any_names_life, names_life}
 use Rattle.halo_status.specs.Nodes.{AtEachNode, AtEachNodeIn, HasShortList}

@@ -15,7 +15,7 @@ use Rattle.halo_status.specs.ValidPay.{AreApart, CanBeMarked, IsRank}
 use Rattle.halo_status.specs.declared.pay.Kind.{Kind}
 use Rattle.halo_status.specs.declared.pay.Kind.TheVariants.{Insurance}
 use Rattle.halo_status.specs.declared.pay.Mark.{Mark}
-use Rattle.halo_model.specs.Premium.{premium_pay}
+use Rattle.halo_contract.specs.Premium.{premium_pay}
 use Rattle.halo_symbol.specs.Proper.{IsPlainName}
 use Rattle.halo_symbol.specs.StatusOf.{tree_of_body}
 use Rattle.halo_symbol.specs.Symbol.{Symbol}
@@ -24,18 +24,19 @@ use Rattle.halo_lex.specs.Lexeme.{IsLongName}
 use Rattle.halo_table.specs.DecrementTable.{DecrementTable, TableFile, empty_table, last_age_of, name_of, names_of}
 use Rattle.halo_table.specs.Sound.{IsSound}
 use Rattle.halo_parse.specs.Checks.{IsSome, IsWithinLimits, OfMembers, PassesAll, YearsRise, year_at}
-use Rattle.halo_parse.specs.Draft.{Draft, is_among, life_names, mask_of_names, pay_written, place_of, rate_from, with_line}
+use Rattle.halo_parse.specs.Draft.{Draft, is_among, mask_of_names, pay_written, place_of, rate_from, with_line}
+use Rattle.halo_contract.specs.PlainContract.{life_names}
 use Rattle.halo_parse.specs.Forms.{CameBefore}
 use Rattle.halo_parse.specs.Limits.{IsRateWithin, IsShortName, any_life}
 use Rattle.halo_parse.specs.Line.{Line, LaterRate, interest, life, pay, premium, reserve, ties}
 use Rattle.halo_parse.specs.LineReading.{nest_line}
 use Rattle.halo_parse.specs.ProperLine.{IsProperLine, IsProperRate}
-use Rattle.halo_parse.specs.declared.contract.LifeLine.{LifeLine}
+use Rattle.halo_contract.specs.declared.contract.LifeLine.{LifeLine}
 use Rattle.halo_parse.specs.declared.fault.ContractKind.TheVariants as kind
 use Rattle.halo_parse.specs.declared.form.Form.{Form}
 use Rattle.halo_parse.specs.declared.form.Form.TheVariants as form
-use Rattle.halo_parse.specs.declared.ties.Ties.{Ties}
-use Rattle.halo_parse.specs.declared.ties.Ties.TheVariants as rule
+use Rattle.halo_contract.specs.declared.ties.Ties.{Ties}
+use Rattle.halo_contract.specs.declared.ties.Ties.TheVariants as rule
 use Rattle.halo_sums.proofs.SetMasks.{mask_of-lt}
 use Rattle.halo_parse.proofs.Nodes.{nodes-tree_of_body}
 use Rattle.halo_spell.specs.Canonical.{canonical_body, canonical_mark, names_in}

@@ -6,10 +6,10 @@ use Rattle.halo_status.specs.Naming.{AnyNamesLivesBelow, NamesLivesBelow, names_
 use Rattle.halo_status.specs.StatusTree.{tree_of, trees_in}
 use Rattle.halo_status.specs.declared.status.Status.{Status, Life}
 use Rattle.halo_status.proofs.Shapes.{tree_of-Life}
-use Rattle.halo_parse.specs.Draft.{life_names}
-use Rattle.halo_parse.specs.declared.contract.LifeLine.{LifeLine}
+use Rattle.halo_contract.specs.PlainContract.{life_names}
+use Rattle.halo_contract.specs.declared.contract.LifeLine.{LifeLine}
 use Rattle.halo_spell.specs.Canonical.{name_at}
-use Rattle.halo_model.proofs.Agreement.{or-left, or-right, same}
+use Rattle.halo_status.proofs.Agreement.{or-left, or-right, same}
 
 pub below_at : (bound : ℕ) (ms : List Status) (k : ℕ) (s : Status) → slice_get ms k ≡ Some s → AnyNamesLivesBelow bound (trees_in ms) → NamesLivesBelow bound (tree_of s)
 below_at bound [] k s at below = absurd cc

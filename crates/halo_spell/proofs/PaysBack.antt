@@ -20,7 +20,7 @@ use Rattle.halo_symbol.specs.Proper.{IsPlainName}
 use Rattle.halo_symbol.specs.StatusOf.{tree_of_content}
 use Rattle.halo_symbol.specs.Symbol as written
 use Rattle.halo_parse.specs.Checks.{AreDifferent}
-use Rattle.halo_parse.specs.ContractLaws.{IsValidAmong}
+use Rattle.halo_contract.specs.ValidContract.{IsValidAmong}
 use Rattle.halo_parse.specs.Draft.{causes_of, defer_of, mark_of, mask_of_names, pay_written, place_of, vary_of}
 use Rattle.halo_spell.specs.Canonical.{canonical_body, canonical_defer, canonical_mark, canonical_symbol, canonical_vary, names_in, set_of}
 use Rattle.halo_spell.proofs.CausesLeft.{some_name}

@@ -11,15 +11,13 @@ use Rattle.halo_parse.specs.Draft.{Draft, empty_draft, with_line}
 use Rattle.halo_parse.specs.Faults.{IsFine, IsReadable, IsWhole, MakesDraft, WritesContract}
 use Rattle.halo_parse.specs.FileLines.{is_silent, lines_of, words_of}
 use Rattle.halo_parse.specs.Line.{Line, interest, life, line_words, pay, premium, reserve, ties}
-use Rattle.halo_parse.specs.LineReading.{nest_line}
-use Rattle.halo_parse.specs.ProperLine.{IsProperLine}
+use Rattle.halo_parse.specs.LineReading.{nest_line, NoLine, NoLineTo}
+use Rattle.halo_parse.specs.ProperLine.{IsProperLine, SpellsLine}
 use Rattle.halo_parse.specs.declared.fault.ContractKind.TheVariants as kind
 use Rattle.halo_parse.specs.Reading.{HoldsDraft, rule_of}
-use Rattle.halo_parse.specs.declared.contract.Contract.{Contract}
-use Rattle.halo_parse.specs.declared.ties.Ties.{Ties}
-use Rattle.halo_parse.specs.declared.ties.Ties.TheVariants as rule
-use Rattle.halo_parse.specs.LineReading.{NoLine, NoLineTo}
-use Rattle.halo_parse.specs.ProperLine.{SpellsLine}
+use Rattle.halo_contract.specs.declared.contract.Contract.{Contract}
+use Rattle.halo_contract.specs.declared.ties.Ties.{Ties}
+use Rattle.halo_contract.specs.declared.ties.Ties.TheVariants as rule
 use Rattle.halo_parse.specs.Depth.{IsShallow}
 use Rattle.halo_parse.proofs.lines.Deep.{no_line_at_all}
 use Rattle.halo_parse.proofs.lines.OneLine.{line_one}

@@ -22,7 +22,7 @@ use Rattle.halo_parse.specs.Depth.{IsShallow, count_of}
 use Rattle.halo_parse.specs.Line.{LaterRate, Line, fraction_word, interest, life, line_words, pay, premium, rate_words, reserve, ties}
 use Rattle.halo_parse.specs.LineReading.{nest_line}
 use Rattle.halo_parse.specs.ProperLine.{IsProperLine, IsProperRate}
-use Rattle.halo_parse.specs.declared.ties.Ties.TheVariants as rule
+use Rattle.halo_contract.specs.declared.ties.Ties.TheVariants as rule
 use Rattle.halo_spell.specs.ContractText.{line_text}
 
 -- up to each place of these bytes the round brackets opened exceed those closed by at most so many

@@ -12,7 +12,7 @@ use Rattle.halo_status.specs.ValidPay.{HasLength, HasRank}
 use Rattle.halo_status.specs.Exists.{exists}
 use Rattle.halo_status.specs.View.{is_on}
 use Rattle.halo_status.specs.declared.view.View.TheVariants.{Due}
-use Rattle.halo_model.specs.Premium.{all_lives, premium_pay}
+use Rattle.halo_contract.specs.Premium.{all_lives, premium_pay}
 use Rattle.halo_symbol.specs.Nesting.{nest_body}
 use Rattle.halo_symbol.specs.Proper.{AreProperNames, IsPlainName}
 use Rattle.halo_symbol.specs.StatusOf.{tree_of_body, tree_of_content, trees_of_members}
@@ -21,11 +21,12 @@ use Rattle.halo_symbol.specs.Symbol.{Names, Symbol}
 use Rattle.halo_symbol.specs.Tree.{Body, list, reversion}
 use Rattle.halo_table.specs.DecrementTable.{TableFile}
 use Rattle.halo_parse.specs.Checks.{AreDifferent, PassesAll, status_tree}
-use Rattle.halo_parse.specs.ContractLaws.{IsValidAmong}
-use Rattle.halo_parse.specs.Draft.{Draft, all_names, causes_of, is_among, life_names, mark_of, pay_written, place_of}
+use Rattle.halo_contract.specs.ValidContract.{IsValidAmong}
+use Rattle.halo_parse.specs.Draft.{Draft, all_names, causes_of, is_among, mark_of, pay_written, place_of}
+use Rattle.halo_contract.specs.PlainContract.{life_names}
 use Rattle.halo_parse.specs.Limits.{IsShortName}
 use Rattle.halo_parse.specs.Line.{pay, premium}
-use Rattle.halo_parse.specs.declared.contract.LifeLine.{LifeLine}
+use Rattle.halo_contract.specs.declared.contract.LifeLine.{LifeLine}
 use Rattle.halo_parse.specs.ProperLine.{IsProperLine}
 use Rattle.halo_sums.proofs.SetMasks.{mask_of-lt}
 use Rattle.halo_parse.proofs.ValidPays.{pays_are_valid, premiums_are_valid}

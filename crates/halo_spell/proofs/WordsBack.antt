@@ -23,7 +23,7 @@ use Rattle.halo_symbol.proofs.Words.{spelled_pieces, status_pieces}
 use Rattle.halo_parse.specs.FileLines.{is_line_feed, is_some, lines_of, without_empty_end, without_mark, without_return, words_of}
 use Rattle.halo_parse.specs.Line.{LaterRate, Line, fraction_word, interest, life, line_words, pay, premium, rate_words, reserve, rule_word, ties}
 use Rattle.halo_parse.specs.ProperLine.{IsProperLine, IsProperRate}
-use Rattle.halo_parse.specs.declared.ties.Ties.TheVariants as rule
+use Rattle.halo_contract.specs.declared.ties.Ties.TheVariants as rule
 use Rattle.halo_spell.specs.ContractText.{line_text, lines_text}
 
 -- a byte that ends neither a word nor a line

@@ -4,17 +4,17 @@ use Rattle.std.specs.Prelude.{All, Option, Some, None}
 use Rattle.std.proofs.Math.Nat.{pow-le-pow_right}
 use Rattle.std.proofs.lemmas.List.{length-map}
 use Rattle.std.proofs.lemmas.List.Elements.{All-nil, All-push, All-weaker}
-use Rattle.halo_model.specs.FromTables.{HasRow}
+use Rattle.halo_table.specs.DecrementTable.{HasRow, TableFile}
 use Rattle.halo_status.specs.Pay.{PlainPay}
 use Rattle.halo_symbol.specs.Symbol.{Names}
-use Rattle.halo_table.specs.DecrementTable.{TableFile}
-use Rattle.halo_parse.specs.ContractLaws.{IsValidPremium}
-use Rattle.halo_parse.specs.Draft.{Draft, all_names, causes_of, empty_draft, is_among, life_names, mask_of_names, with_line}
+use Rattle.halo_contract.specs.ValidContract.{IsValidPremium}
+use Rattle.halo_parse.specs.Draft.{Draft, all_names, causes_of, empty_draft, is_among, mask_of_names, with_line}
+use Rattle.halo_contract.specs.PlainContract.{life_names}
 use Rattle.halo_parse.specs.Faults.{MakesDraft}
 use Rattle.halo_parse.specs.FileLines.{lines_of}
 use Rattle.halo_parse.specs.Line.{Line, interest, life, ties, pay, premium, reserve}
-use Rattle.halo_parse.specs.declared.contract.LifeLine.{LifeLine}
-use Rattle.halo_parse.specs.declared.contract.ReserveLine.{ReserveLine}
+use Rattle.halo_contract.specs.declared.contract.LifeLine.{LifeLine}
+use Rattle.halo_contract.specs.declared.contract.ReserveLine.{ReserveLine}
 use Rattle.halo_parse.proofs.Kept.{kept_at_first, kept_by_lines}
 use Rattle.halo_sums.proofs.SetMasks.{mask_of-lt}
 use Rattle.halo_parse.proofs.ValidContracts.{contracts_are_valid}

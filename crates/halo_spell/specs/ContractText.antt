@@ -1,22 +1,20 @@
 -- The canonical text of a contract: its lines in the order of the forms, with one space between the words of a line, and a
 -- line feed behind each line.
-use Rattle.std.specs.Prelude.{ℕ, List, [], ◌∷◌, ◌++◌, Option, Some, None, codes, flat_map, map}
+use Rattle.std.specs.Prelude.{ℕ, List, [], ◌∷◌, ◌++◌, codes, flat_map, map}
 use Rattle.std.specs.List.{join_with_byte}
 use Rattle.std.specs.Fmt.{decimal}
-use Rattle.std.specs.Option.{option_map, option_to_list}
+use Rattle.std.specs.Option.{option_to_list}
 use Rattle.halo_interest.specs.declared.rate.Rate.{Rate}
-use Rattle.halo_status.specs.Pay.{PlainPay, pay_of}
+use Rattle.halo_status.specs.Pay.{PlainPay}
 use Rattle.halo_symbol.specs.Bytes.{symbol_bytes}
 use Rattle.halo_table.specs.DecrementTable.{TableFile, name_of}
-use Rattle.halo_parse.specs.Draft.{Draft, life_names}
+use Rattle.halo_contract.specs.PlainContract.{PlainContract, life_names}
 use Rattle.halo_parse.specs.Line as line
 use Rattle.halo_parse.specs.Line.{Line, LaterRate, line_words}
-use Rattle.halo_parse.specs.Reading.{rule_of}
-use Rattle.halo_parse.specs.declared.contract.Contract.{Contract}
-use Rattle.halo_parse.specs.declared.contract.LifeLine.{LifeLine}
-use Rattle.halo_parse.specs.declared.contract.ReserveLine.{ReserveLine}
-use Rattle.halo_parse.specs.declared.ties.Ties.{Ties}
-use Rattle.halo_parse.specs.declared.ties.Ties.TheVariants as rule
+use Rattle.halo_contract.specs.declared.contract.LifeLine.{LifeLine}
+use Rattle.halo_contract.specs.declared.contract.ReserveLine.{ReserveLine}
+use Rattle.halo_contract.specs.declared.ties.Ties.{Ties}
+use Rattle.halo_contract.specs.declared.ties.Ties.TheVariants as rule
 use Rattle.halo_spell.specs.Canonical.{canonical_body, canonical_symbol, names_in}
 
 -- the canonical symbol of a pay, where the lives and the causes have these names
@@ -27,11 +25,11 @@ pay_text lives causes pay = symbol_bytes (canonical_symbol lives causes pay) []
 abbrev pub canonical_rate : Rate → LaterRate
 canonical_rate rate = record { year = decimal rate.year; p = decimal rate.p; q = decimal rate.q }
 
--- the line of an interest, where there is one
-abbrev pub interest_lines : Option (List Rate) → List Line
-interest_lines None = []
-interest_lines (Some []) = []
-interest_lines (Some (first ∷ later)) = line.interest (decimal first.p) (decimal first.q) (map canonical_rate later) ∷ []
+-- the line of an interest, which has a first fraction
+abbrev pub interest_lines : List Rate → List Line
+interest_lines [] = []
+interest_lines (first ∷ later) =
+    line.interest (decimal first.p) (decimal first.q) (map canonical_rate later) ∷ []
 
 -- the line of a life
 abbrev pub life_line : TableFile → LifeLine → Line
@@ -55,14 +53,14 @@ abbrev pub reserve_line : List (List ℕ) → ReserveLine → Line
 reserve_line lives reserve = line.reserve (decimal reserve.time) (names_in lives reserve.alive)
 
 -- the lines of a contract
-abbrev pub canonical_lines : TableFile → Draft → List Line
-canonical_lines tables d =
-    interest_lines d.interest
-    ++ map (life_line tables) d.lives
-    ++ ties_lines (rule_of d.ties)
-    ++ map (pay_line (life_names d.lives) tables.causes) d.pays
-    ++ map (premium_line (life_names d.lives)) (option_to_list d.premium)
-    ++ map (reserve_line (life_names d.lives)) d.reserves
+abbrev pub canonical_lines : TableFile → PlainContract → List Line
+canonical_lines tables c =
+    interest_lines c.interest
+    ++ map (life_line tables) c.lives
+    ++ ties_lines c.ties
+    ++ map (pay_line (life_names c.lives) tables.causes) c.pays
+    ++ map (premium_line (life_names c.lives)) (option_to_list c.premium)
+    ++ map (reserve_line (life_names c.lives)) c.reserves
 
 -- the text of a line: its words, with a space between each two
 abbrev pub line_text : Line → List ℕ
@@ -73,16 +71,5 @@ abbrev pub lines_text : List Line → List ℕ
 lines_text lines = flat_map (λ l. line_text l ++ codes "\n") lines
 
 -- the canonical text of a contract
-unfoldable pub contract_text : TableFile → Draft → List ℕ
-contract_text tables d = lines_text (canonical_lines tables d)
-
--- a contract in memory as plain data
-abbrev pub contract_of : Contract → Draft
-contract_of contract = record {
-  interest = Some contract.interest;
-  lives = contract.lives.items;
-  ties = Some contract.ties;
-  pays = map pay_of contract.pays.items;
-  premium = option_map pay_of contract.premium;
-  reserves = contract.reserves.items;
-}
+unfoldable pub contract_text : TableFile → PlainContract → List ℕ
+contract_text tables contract = lines_text (canonical_lines tables contract)

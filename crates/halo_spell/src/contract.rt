@@ -6,7 +6,7 @@ ghost use Rattle.halo_spell.specs.Spellable.{IsSpellable};
 use crate::Memory;
 use crate::interest::write_interest;
 use crate::lines::{write_lives, write_pays, write_premium, write_reserves, write_ties};
-use halo_parse::contract::Contract;
+use halo_contract::Contract;
 use halo_table::Tables;
 use std::alloc::Global;
 

@@ -4,7 +4,7 @@ ghost use Rattle.std.specs.Option.{option_map, option_to_list};
 ghost use Rattle.halo_status.specs.Naming.{NamesLivesBelow};
 ghost use Rattle.halo_status.specs.Pay.{pay_of};
 ghost use Rattle.halo_status.specs.StatusTree.{tree_of};
-ghost use Rattle.halo_parse.specs.Draft.{life_names};
+ghost use Rattle.halo_contract.specs.PlainContract.{life_names};
 ghost use Rattle.halo_spell.specs.Canonical.{names_in};
 ghost use Rattle.halo_spell.specs.ContractText.{life_line, line_text, lines_text, pay_line, premium_line, reserve_line, ties_lines};
 ghost use Rattle.halo_spell.specs.LineText.{names_text};
@@ -14,8 +14,7 @@ use crate::Memory;
 use crate::status::{Position, write_status};
 use crate::symbol::write_symbol;
 use crate::text::{write_bytes, write_number};
-use halo_parse::contract::{LifeLine, ReserveLine};
-use halo_parse::ties::Ties;
+use halo_contract::{LifeLine, ReserveLine, Ties};
 use halo_status::Pay;
 use halo_table::Tables;
 

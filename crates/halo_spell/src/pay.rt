@@ -1,13 +1,13 @@
 // Pays.
 ghost use Rattle.std.specs.Prelude.{◌≡◌, ◌++◌, OnErr, OnOk, length};
 ghost use Rattle.halo_status.specs.Pay.{pay_of};
-ghost use Rattle.halo_parse.specs.Draft.{life_names};
+ghost use Rattle.halo_contract.specs.PlainContract.{life_names};
 ghost use Rattle.halo_spell.specs.ContractText.{pay_text};
 ghost use Rattle.halo_spell.specs.Spellable.{IsSpellablePay};
 
 use crate::Memory;
 use crate::symbol::write_symbol;
-use halo_parse::contract::LifeLine;
+use halo_contract::LifeLine;
 use halo_status::Pay;
 use halo_table::Tables;
 

@@ -6,13 +6,13 @@ ghost use Rattle.halo_status.specs.StatusTree.{tree_of, trees_in};
 ghost use Rattle.halo_symbol.specs.Bytes.{body_bytes, content_bytes};
 ghost use Rattle.halo_symbol.specs.Characters.{round_open, round_close};
 ghost use Rattle.halo_symbol.specs.Tree as written;
-ghost use Rattle.halo_parse.specs.Draft.{life_names};
+ghost use Rattle.halo_contract.specs.PlainContract.{life_names};
 ghost use Rattle.halo_spell.specs.Canonical.{canonical_mark, canonical_members, canonical_node, list_of};
 ghost use Rattle.halo_spell.specs.StatusText.{bytes_at, mark_bytes_at, separator_at};
 
 use crate::Memory;
 use crate::text::{write_bytes, write_number};
-use halo_parse::contract::LifeLine;
+use halo_contract::LifeLine;
 use halo_status::{Mark, Members, Status};
 
 /// Where a status stands, which decides whether round brackets stand round it.

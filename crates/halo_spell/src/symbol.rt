@@ -4,7 +4,7 @@ ghost use Rattle.std.specs.Option.{option_and_then, option_map};
 ghost use Rattle.halo_status.specs.Naming.{NamesLivesBelow};
 ghost use Rattle.halo_status.specs.Pay.{pay_of};
 ghost use Rattle.halo_symbol.specs.Bytes.{causes_bytes, content_bytes, defer_bytes, head_text, kind_text};
-ghost use Rattle.halo_parse.specs.Draft.{life_names};
+ghost use Rattle.halo_contract.specs.PlainContract.{life_names};
 ghost use Rattle.halo_spell.specs.Canonical.{canonical_body, canonical_defer, canonical_mark, canonical_vary, names_in, set_of};
 ghost use Rattle.halo_spell.specs.ContractText.{pay_text};
 ghost use Rattle.halo_spell.specs.Spellable.{IsSpellablePay};
@@ -14,7 +14,7 @@ ghost use Rattle.halo_status.specs.ValidPay.{CanBeMarked};
 use crate::Memory;
 use crate::status::{Position, write_members, write_status};
 use crate::text::{write_bytes, write_number};
-use halo_parse::contract::LifeLine;
+use halo_contract::LifeLine;
 use halo_status::{Kind, Pay, Status, Vary};
 use halo_table::Tables;
 

@@ -1,3 +1,4 @@
+pub mod Agreement
 pub mod Counts
 pub mod Empty
 pub mod InBlock
@@ -8,3 +9,4 @@ pub mod Masks
 pub mod Shapes
 pub mod Walk
 pub mod Words
+pub mod NamedMembers

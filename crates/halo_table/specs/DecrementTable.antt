@@ -1,5 +1,5 @@
 -- Multiple-decrement tables as plain data, and what is looked up in them.
-use Rattle.std.specs.Prelude.{ℕ, ◌+◌, ◌-◌, List, [], get_or, length, map}
+use Rattle.std.specs.Prelude.{ℕ, ◌+◌, ◌-◌, ◌<◌, ◌≤◌, List, [], get_or, length, map}
 
 -- a row of a table: the survivors at its age, and of these the leavers by each cause, in the order of the causes
 pub record DecrementRow : Type 0 where
@@ -60,3 +60,9 @@ survivors_at file table age = (row_of (table_of file table) age).survivors
 -- those who leave at an age by the cause at a place, 0 past the table's last age
 abbrev pub leavers_at : TableFile → ℕ → ℕ → ℕ → ℕ
 leavers_at file table age cause = get_or (row_of (table_of file table) age).leavers cause 0
+
+-- the table at a place, which is one of the file, has a row at an age
+pub record HasRow (file : TableFile) (table age : ℕ) : Type 0 where
+  pub table_in : table < length file.tables
+  pub from_first : first_age_of file table ≤ age
+  pub to_last : age ≤ last_age_of file table

@@ -12,7 +12,7 @@ use Rattle.halo_model.specs.Counts.{measures_of, width_count}
 use Rattle.halo_model.specs.Order.{rank_in}
 use Rattle.halo_model.specs.Outcome.{Outcome, outcomes, weight}
 use Rattle.halo_model.specs.Payment.{pays_due}
-use Rattle.halo_model.specs.Premium.{all_lives}
+use Rattle.halo_contract.specs.Premium.{all_lives}
 use Rattle.halo_model.specs.Value.{denominator, due_value, numerator, ranked_numerator, total_numerator}
 use Rattle.halo_model.specs.Widths.{printed_pay_width, printed_total_width}
 use Rattle.halo_table.specs.DecrementTable.{TableFile}

@@ -4,7 +4,7 @@ use Rattle.std.specs.Prelude.{ℕ, Err, IfOk, IsErrAnd, MatchResult, Ok, Result,
 use Rattle.std.specs.Global.{Vec}
 use Rattle.halo_parse.specs.Draft.{Draft}
 use Rattle.halo_parse.specs.Reading.{HoldsDraft, rule_of}
-use Rattle.halo_parse.specs.declared.contract.Contract.{Contract}
+use Rattle.halo_contract.specs.declared.contract.Contract.{Contract}
 use Rattle.halo_spell.specs.ContractText.{contract_of, contract_text}
 use Rattle.halo_spell.specs.Spellable.{IsSpellable}
 use Rattle.halo_spell.specs.declared.memory.Memory.{Memory}

@@ -5,7 +5,7 @@ use Rattle.std.specs.Global.{Vec}
 use Rattle.halo_num.specs.declared.nano.Nano.{Nano}
 use Rattle.halo_parse.specs.Draft.{Draft}
 use Rattle.halo_parse.specs.Reading.{HoldsDraft}
-use Rattle.halo_parse.specs.declared.contract.Contract.{Contract}
+use Rattle.halo_contract.specs.declared.contract.Contract.{Contract}
 use Rattle.halo_parse.proofs.laws.OneFault.{contract_is_one}
 use Rattle.halo_records.specs.Records.{records_of}
 use Rattle.halo_spell.specs.ContractText.{contract_text}

@@ -4,18 +4,17 @@ use Rattle.std.specs.Global.{Vec}
 use Rattle.std.specs.Prelude.{IfOk, slice_index_or}
 use Rattle.std.specs.Option.{option_map}
 use Rattle.std.proofs.lemmas.List.{length-map, get_or-map}
-use Rattle.halo_model.specs.FromTables.{HasRow}
+use Rattle.halo_table.specs.DecrementTable.{HasRow, TableFile}
 use Rattle.halo_num.specs.declared.nano.Nano.{Nano}
 use Rattle.halo_parse.specs.Addition.{IsKept}
 use Rattle.halo_parse.specs.Draft.{Draft, empty_draft}
 use Rattle.halo_parse.specs.FileLines.{lines_of}
 use Rattle.halo_parse.specs.Reading.{HoldsDraft}
-use Rattle.halo_parse.specs.declared.contract.Contract.{Contract}
-use Rattle.halo_parse.specs.declared.contract.LifeLine.{LifeLine}
+use Rattle.halo_contract.specs.declared.contract.Contract.{Contract}
+use Rattle.halo_contract.specs.declared.contract.LifeLine.{LifeLine}
 use Rattle.halo_parse.proofs.Kept.{kept_at_first, kept_by_lines}
 use Rattle.halo_status.specs.Pay.{PlainPay, pay_of}
 use Rattle.halo_status.specs.declared.pay.Pay.{Pay}
-use Rattle.halo_table.specs.DecrementTable.{TableFile}
 use Rattle.halo_table.specs.declared.lives.Life.{Life}
 use Rattle.halo_top.specs.ExactValue.{contract_basis, due_pay, EnclosesContract, EnclosesOneLife, one_life_basis, rates_of, ties_of}
 use Rattle.halo_top.specs.Input.{IsWrittenSomewhere}

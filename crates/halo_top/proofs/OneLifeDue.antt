@@ -15,8 +15,8 @@ use Rattle.halo_model.specs.Horizon.{horizon}
 use Rattle.halo_table.specs.DecrementTable.{TableFile, survivors_at}
 use Rattle.halo_model.specs.FromTables.{life_of}
 use Rattle.halo_model.specs.Life.{IsLife, PlainLife}
-use Rattle.halo_model.specs.Order.{declared_order}
-use Rattle.halo_model.specs.Premium.{all_lives}
+use Rattle.halo_contract.specs.declared.ties.Ties.TheVariants.{Declared}
+use Rattle.halo_contract.specs.Premium.{all_lives}
 use Rattle.halo_model.specs.Value.{denominator, numerator}
 use Rattle.halo_model.proofs.DueOnOneLife.{due-on-one-life}
 use Rattle.halo_top.specs.ExactValue.{due_pay}
@@ -35,7 +35,7 @@ years-narrow years horizon weight within some =
 
 module _ (p q : ℕ → ℕ) (last_time : ℕ) (x : PlainLife) where
   abbrev basis : Basis
-  basis = record { p = p; q = q; last_time = last_time; lives = x ∷ []; ties = declared_order }
+  basis = record { p = p; q = q; last_time = last_time; lives = x ∷ []; ties = Declared }
 
   -- what 1 due at time t adds to the value, in the parts of the common denominator
   abbrev pub yearly : ℕ → ℕ

@@ -12,20 +12,20 @@ use Rattle.halo_table.specs.DecrementTable.{TableFile}
 use Rattle.halo_table.specs.declared.lives.Life.{Life}
 use Rattle.halo_model.specs.Basis.{Basis}
 use Rattle.halo_model.specs.Order as model
-use Rattle.halo_model.specs.Order.{all_orders, declared_order}
-use Rattle.halo_model.specs.Premium.{all_lives}
+use Rattle.halo_contract.specs.declared.ties.Ties.TheVariants.{Even, Declared}
+use Rattle.halo_contract.specs.Premium.{all_lives}
 use Rattle.halo_model.specs.Value.{denominator, numerator, total_numerator}
 use Rattle.halo_model.specs.Widths.{printed_pay_width, printed_total_width}
-use Rattle.halo_life.specs.Basis.{basis_of}
+use Rattle.halo_model.specs.ContractBasis.{basis_of}
 use Rattle.halo_parse.specs.Draft.{Draft}
 use Rattle.halo_parse.specs.Reading.{rule_of}
 use Rattle.halo_top.specs.declared.one_life.OneLife.{OneLife}
-use Rattle.halo_parse.specs.declared.ties.Ties.{Ties}
-use Rattle.halo_parse.specs.declared.ties.Ties.TheVariants as rule
+use Rattle.halo_contract.specs.declared.ties.Ties.{Ties}
+use Rattle.halo_contract.specs.declared.ties.Ties.TheVariants as rule
 
 -- the basis of a contract of one life
 abbrev pub one_life_basis : TableFile → List Rate → Life → Basis
-one_life_basis tables rates on = basis_of tables rates (on ∷ []) declared_order
+one_life_basis tables rates on = basis_of tables rates (on ∷ []) Declared
 
 -- an amount at the start of each year in which the first life is alive
 abbrev pub due_pay : ℕ → PlainPay
@@ -47,8 +47,8 @@ pub record EnclosesTotal (b : Basis) (pays : List PlainPay) (ends : Nano) : Type
 
 -- the rule for ties of a contract, as the model has it
 abbrev pub ties_of : Ties → model.Ties
-ties_of rule.Declared = declared_order
-ties_of rule.Even = all_orders
+ties_of rule.Declared = Declared
+ties_of rule.Even = Even
 
 -- the fractions of interest that a contract has
 abbrev pub rates_of : Option (List Rate) → List Rate

@@ -9,7 +9,7 @@ use Rattle.halo_table.specs.declared.fault.TableFault.{TableFault}
 use Rattle.halo_parse.specs.Draft.{Draft}
 use Rattle.halo_parse.specs.Faults.{IsContractFault, WritesContract}
 use Rattle.halo_parse.specs.Reading.{HoldsDraft}
-use Rattle.halo_parse.specs.declared.contract.Contract.{Contract}
+use Rattle.halo_contract.specs.declared.contract.Contract.{Contract}
 use Rattle.halo_parse.specs.declared.fault.ContractFault.{ContractFault}
 use Rattle.halo_top.specs.declared.refusal.InputFile.{InputFile}
 use Rattle.halo_top.specs.declared.refusal.InputFile.TheVariants as file

@@ -3,8 +3,8 @@ use Rattle.std.specs.Prelude.{◌≡◌, ℕ, [], ◌∷◌, length, map, None}
 use Rattle.halo_status.specs.Pay.{pay_of}
 use Rattle.halo_parse.specs.Draft.{Draft}
 use Rattle.halo_parse.specs.Reading.{rule_of}
-use Rattle.halo_parse.specs.declared.ties.Ties.TheVariants as rule
-use Rattle.halo_parse.specs.declared.contract.Contract.{Contract}
+use Rattle.halo_contract.specs.declared.ties.Ties.TheVariants as rule
+use Rattle.halo_contract.specs.declared.contract.Contract.{Contract}
 use Rattle.halo_top.specs.ExactValue.{due_pay}
 use Rattle.halo_top.specs.declared.one_life.OneLife.{OneLife}
 

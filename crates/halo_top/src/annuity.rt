@@ -3,7 +3,7 @@ ghost use Rattle.std.specs.Prelude.{◌≡◌, ◌*◌, ◌<◌, ◌≤◌, ◌^
 ghost use Rattle.halo_num.specs.Ends.{HasWidth, IsSized, IsWithin, fine};
 ghost use Rattle.halo_model.specs.Counts.{measures_of, width_count};
 ghost use Rattle.halo_top.specs.ExactValue.{EnclosesPay, EnclosesValue, due_pay, one_life_basis};
-ghost use Rattle.halo_model.specs.FromTables.{HasRow};
+ghost use Rattle.halo_table.specs.DecrementTable.{HasRow};
 
 use crate::one_life::OneLife;
 use halo_interest::Interest;

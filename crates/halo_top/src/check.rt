@@ -6,7 +6,7 @@ ghost use Rattle.halo_spell.specs.ContractText.{contract_text};
 ghost use Rattle.halo_top.specs.Input.{IsWrittenSomewhere};
 
 use crate::refusal::Stop;
-use halo_parse::Contract;
+use halo_contract::Contract;
 use halo_spell::spell_contract;
 use halo_table::Tables;
 use std::alloc::Global;

@@ -5,7 +5,8 @@ ghost use Rattle.halo_top.specs.Input.{LoadsContract, LoadsFile, LoadsTables, li
 
 use crate::refusal::{InputFile, Refusal, Stop};
 use halo_io::{LoadFault, Shelf, load};
-use halo_parse::{Contract, ContractError, read_contract};
+use halo_contract::Contract;
+use halo_parse::{ContractError, read_contract};
 use halo_table::{Tables, TablesError};
 use std::alloc::Global;
 

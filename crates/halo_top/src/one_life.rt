@@ -6,7 +6,7 @@ ghost use Rattle.halo_top.specs.OneLife.{IsOfOneLife};
 ghost use Rattle.halo_top.specs.declared.one_life.OneLife.{OneLife as PlainOneLife};
 
 use halo_interest::Interest;
-use halo_parse::{Contract, Ties};
+use halo_contract::{Contract, Ties};
 use halo_status::{Kind, Pay, Status, Vary};
 use halo_table::Life;
 

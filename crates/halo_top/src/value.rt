@@ -1,6 +1,6 @@
 // The command `value`.
 ghost use Rattle.std.specs.Prelude.{◌≡◌, ◌<◌, ◌≤◌, ◌^◌, ◌⊎◌, [], ◌∷◌, IfErr, IfOk};
-ghost use Rattle.halo_model.specs.FromTables.{HasRow};
+ghost use Rattle.halo_table.specs.DecrementTable.{HasRow};
 ghost use Rattle.halo_num.specs.declared.nano.Nano.{Nano};
 ghost use Rattle.halo_parse.specs.Draft.{Draft};
 ghost use Rattle.halo_parse.specs.Reading.{HoldsDraft};
@@ -14,7 +14,7 @@ use crate::one_life::OneLife;
 use crate::refusal::{Refusal, Stop};
 use crate::report::value_report;
 use halo_num::Steps;
-use halo_parse::Contract;
+use halo_contract::Contract;
 use halo_table::Tables;
 use std::alloc::Global;
 use std::marker::Brand;

@@ -4,8 +4,8 @@ use Rattle.std.specs.Prelude.{All, Contains}
 use Rattle.std.proofs.Math.Bool.{Bool-discrete}
 use Rattle.std.proofs.Math.Decide.{map_dec, dec_le, dec_lt}
 use Rattle.std.proofs.Math.Logic.Dec
-use Rattle.halo_model.specs.FromTables.{HasRow}
-use Rattle.halo_model.specs.Premium.{all_lives}
+use Rattle.halo_table.specs.DecrementTable.{HasRow, TableFile, first_age_of, last_age_of, names_of}
+use Rattle.halo_contract.specs.Premium.{all_lives}
 use Rattle.halo_status.specs.Exists.{exists}
 use Rattle.halo_status.specs.Tree.{member_count}
 use Rattle.halo_status.specs.ValidPay.{AreApart, IsRank}
@@ -14,15 +14,15 @@ use Rattle.halo_status.specs.declared.pay.Kind.{Kind}
 use Rattle.halo_status.specs.declared.pay.Kind.TheVariants as pays
 use Rattle.halo_status.specs.declared.view.View.TheVariants.{Due}
 use Rattle.halo_symbol.specs.Symbol.{Mark, Names}
-use Rattle.halo_table.specs.DecrementTable.{TableFile, first_age_of, last_age_of, names_of}
 use Rattle.halo_table.proofs.Deciding.{dec_contains, dec_if}
 use Rattle.halo_text.specs.Number.{number}
 use Rattle.halo_parse.specs.Checks.{AreAliveThen, AreDifferent, ExistsAtStart, HasAge, HasCauses, HasLives, HasNoZero, HasRanks, HasRisingYears, HasTable, IsLastingLine, IsOnce, IsSome, IsWithinLimits, OfMembers, Passes, SharesNothingMarked, YearsRise, status_tree, symbol_tree, year_at}
-use Rattle.halo_parse.specs.Draft.{Draft, all_names, amount_of_all, life_names, place_of}
+use Rattle.halo_parse.specs.Draft.{Draft, all_names, place_of}
+use Rattle.halo_contract.specs.PlainContract.{amount_of_all, life_names}
 use Rattle.halo_parse.specs.Forms.{CameBefore, IsInOrder, form_of, place_of_form}
 use Rattle.halo_parse.specs.Limits.{IsRateWithin, IsShortName}
 use Rattle.halo_parse.specs.Line.{Line, LaterRate, interest, life, ties, pay, premium, reserve}
-use Rattle.halo_parse.specs.declared.contract.LifeLine.{LifeLine}
+use Rattle.halo_contract.specs.declared.contract.LifeLine.{LifeLine}
 use Rattle.halo_parse.specs.declared.fault.ContractKind.{ContractKind}
 use Rattle.halo_parse.specs.declared.fault.ContractKind.TheVariants as kind
 use Rattle.halo_parse.specs.declared.form.Form.{Form}

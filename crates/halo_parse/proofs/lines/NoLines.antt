@@ -13,7 +13,7 @@ use Rattle.halo_parse.specs.LineReading.{NoLineTo, keyword, nest_line}
 use Rattle.halo_parse.specs.ProperLine.{IsProperLine, IsProperRate}
 use Rattle.halo_parse.specs.declared.form.Form.{Form}
 use Rattle.halo_parse.specs.declared.form.Form.TheVariants as form
-use Rattle.halo_parse.specs.declared.ties.Ties.{Ties}
+use Rattle.halo_contract.specs.declared.ties.Ties.{Ties}
 
 -- a number for the first word of a line, which differs where lines begin differently
 abbrev pub word_code : List (List ℕ) → ℕ

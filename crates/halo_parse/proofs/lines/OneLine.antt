@@ -6,8 +6,8 @@ use Rattle.halo_symbol.proofs.Words.{status_unique, symbol_unique}
 use Rattle.halo_symbol.specs.Bytes.{body_bytes, symbol_bytes}
 use Rattle.halo_parse.specs.Line.{LaterRate, Line, interest, life, ties, pay, premium, reserve, line_words, rate_words, rule_word}
 use Rattle.halo_parse.specs.ProperLine.{IsProperLine, IsProperRate, SpellsLine}
-use Rattle.halo_parse.specs.declared.ties.Ties.{Ties}
-use Rattle.halo_parse.specs.declared.ties.Ties.TheVariants.{Declared, Even}
+use Rattle.halo_contract.specs.declared.ties.Ties.{Ties}
+use Rattle.halo_contract.specs.declared.ties.Ties.TheVariants.{Declared, Even}
 use Rattle.halo_parse.proofs.lines.NoLines.{behind, first_is, word_code}
 use Rattle.halo_parse.proofs.lines.Slashes.{fraction_one}
 

@@ -13,8 +13,8 @@ use Rattle.halo_symbol.specs.Characters.{bar_text, slash}
 use Rattle.halo_symbol.specs.Proper.{IsPlainName}
 use Rattle.halo_parse.specs.Line.{rule_word}
 use Rattle.halo_parse.specs.LineReading.{IsFraction, NoFraction}
-use Rattle.halo_parse.specs.declared.ties.Ties.{Ties}
-use Rattle.halo_parse.specs.declared.ties.Ties.TheVariants.{Declared, Even}
+use Rattle.halo_contract.specs.declared.ties.Ties.{Ties}
+use Rattle.halo_contract.specs.declared.ties.Ties.TheVariants.{Declared, Even}
 use Rattle.halo_parse.proofs.lines.Slashes.{IsNoSlash, cut_one, number_has_none}
 
 -- a fact, or that it does not hold

@@ -1,5 +1,5 @@
 use Rattle.std.proofs.Common.{◌≡◌, ℕ, suc, ◌-◌, ◌^◌, ◌∙◌, arith, lit<, refl, sym, subst}
-use Rattle.halo_model.specs.Order.{declared_order}
+use Rattle.halo_contract.specs.declared.ties.Ties.TheVariants.{Declared}
 use Rattle.halo_compile.specs.OfTask.{basis_of_task, pay_of_task}
 use Rattle.halo_annuity.specs.OfTask.{last_of_task}
 use Rattle.halo_annuity.specs.Worth.{HoldValues}
@@ -23,10 +23,10 @@ carry_back-requires g c =
             (
               omega (arith, c.requires.time, in_time),
               modest-same (2 ^ g.row.N) g.row.M c.args.work.now c.args.work.now c.requires.task.sets refl refl
-                  (values-modest (basis_of_task task declared_order) (pay_of_task task)
+                  (values-modest (basis_of_task task Declared) (pay_of_task task)
                   refl c.requires.task.valid.vary (suc c.args.t) g.row.N c.start-start.ensures.group.few
                   c.args.work.now (suc c.args.t) (suc (last_of_task task) - suc c.args.t)
-                  (omega (arith, c.requires.time, in_time, last)) (c.requires.values declared_order)),
+                  (omega (arith, c.requires.time, in_time, last)) (c.requires.values Declared)),
             ),
           ),
         ),
@@ -46,11 +46,11 @@ pay-requires g c =
           (
             omega (arith, c.requires.time, last),
             modest-same (2 ^ g.row.N) g.row.M c.carry_back.new.work c.carry_back.new.work c.requires.task.sets refl refl
-                (carried-modest (basis_of_task task declared_order) (pay_of_task task) refl c.requires.task.valid.vary
+                (carried-modest (basis_of_task task Declared) (pay_of_task task) refl c.requires.task.valid.vary
                 (suc c.args.t) g.row.N c.start-start.ensures.group.few c.carry_back.new.work c.args.t
                 (suc (last_of_task task) - suc c.args.t)
-                (omega (arith, c.requires.time, in_time, last)) (c.carry_back.ensures.carried declared_order
-                (suc c.args.t) (suc (last_of_task task) - suc c.args.t) (c.requires.values declared_order))),
+                (omega (arith, c.requires.time, in_time, last)) (c.carry_back.ensures.carried Declared
+                (suc c.args.t) (suc (last_of_task task) - suc c.args.t) (c.requires.values Declared))),
           ),
         ),
       ),

@@ -1,5 +1,5 @@
 use Rattle.std.proofs.Common.{◌≡◌, ℕ, suc, ◌+◌, ◌-◌, ◌^◌, ◌∙◌, arith, lit<, refl, sym, subst}
-use Rattle.halo_model.specs.Order.{declared_order}
+use Rattle.halo_contract.specs.declared.ties.Ties.TheVariants.{Declared}
 use Rattle.halo_compile.specs.OfTask.{basis_of_task, pay_of_task}
 use Rattle.halo_annuity.specs.OfTask.{last_of_task}
 use Rattle.halo_annuity.specs.Worth.{HoldCarried, HoldValues}
@@ -22,10 +22,10 @@ pay-requires g c =
           (
             omega (arith, c.requires.time, last),
             modest-same (2 ^ g.row.N) g.row.M c.args.work.now c.args.work.now c.requires.task.sets refl refl
-                (values-modest (basis_of_task task declared_order) (pay_of_task task) refl c.requires.task.valid.vary
+                (values-modest (basis_of_task task Declared) (pay_of_task task) refl c.requires.task.valid.vary
                 (suc c.args.t) g.row.N c.start-start.ensures.group.few c.args.work.now
                 (suc c.args.t) (suc (last_of_task task) - suc c.args.t)
-                (omega (arith, c.requires.time, in_time, last)) (c.requires.values declared_order)),
+                (omega (arith, c.requires.time, in_time, last)) (c.requires.values Declared)),
           ),
         ),
       ),
@@ -38,12 +38,12 @@ carry_back-requires g c =
     let last = immediate-last task.pay.now.kind task.horizon c.requires.immediate in
     let years : ℕ = last_of_task task - suc c.args.t in
     let next : suc c.args.t ≡ c.args.t + 1 = omega arith in
-    let b = basis_of_task task declared_order in
+    let b = basis_of_task task Declared in
     let carried = subst (λ (t : ℕ). HoldCarried b (pay_of_task task) c.args.t g.row.N t years c.args.work.now) next
     (immediate-carried b (pay_of_task task) g.row.N
     (suc c.args.t) c.args.work.now c.requires.immediate c.args.t years (suc (last_of_task task) - suc c.args.t)
-    (omega arith) (omega (arith, c.requires.time, last)) (c.requires.values declared_order)) in
-    let paid = c.pay.ensures.paid declared_order years carried in (
+    (omega arith) (omega (arith, c.requires.time, last)) (c.requires.values Declared)) in
+    let paid = c.pay.ensures.paid Declared years carried in (
       lit< tt,
       (
         lit< tt,

@@ -1,7 +1,7 @@
 use Rattle.std.proofs.Common.{suc, ◌-◌, ◌^◌, arith, refl}
 use Rattle.std.proofs.lemmas.Int.{ints}
 use Rattle.halo_sums.specs.Masks.{bits}
-use Rattle.halo_model.specs.Order.{declared_order}
+use Rattle.halo_contract.specs.declared.ties.Ties.TheVariants.{Declared}
 use Rattle.halo_model.specs.Segment.{Run}
 use Rattle.halo_compile.specs.OfTask.{basis_of_task, pay_of_task}
 use Rattle.halo_annuity.proofs.RunWorths.{run-carried, run-not-paid, run-paid, run-within}
@@ -12,18 +12,18 @@ use Rattle.halo_annuity.proofs.TaskFacts.{last-in}
 use Rattle.halo_annuity.proofs.term.paid_from.Goals as goal
 
 pub carried-value-requires-clause-from : goal.carried-value-requires-clause-from
-carried-value-requires-clause-from g c = (c.requires.later declared_order).within.low
+carried-value-requires-clause-from g c = (c.requires.later Declared).within.low
 
 pub carried-value-requires-clause-room : goal.carried-value-requires-clause-room
 carried-value-requires-clause-room g c =
     let task = c.args.task.now in
     let run : Run = record { first = c.args.from; last = c.args.to } in
     let within =
-    run-within (pay_of_task task) run c.args.times (basis_of_task task declared_order) g.row.N (suc c.args.t)
+    run-within (pay_of_task task) run c.args.times (basis_of_task task Declared) g.row.N (suc c.args.t)
     (c.args.to - c.args.t) (bits g.row.N c.args.set) c.args.later refl c.requires.task.valid.vary c.requires.times
     (omega
     (arith, c.requires.time, c.requires.run.to, last-in task.pay.now.kind task.horizon, c.requires.task.horizon_in))
-    (c.requires.later declared_order) in
+    (c.requires.later Declared) in
     omega (arith, ints, within.high)
 
 pub returns-then-t-from-clause-worth : goal.returns-then-t-from-clause-worth
@@ -61,11 +61,11 @@ add-requires-clause-self_in g c =
     let task = c.args.task.now in
     let run : Run = record { first = c.args.from; last = c.args.to } in
     let within =
-    run-within (pay_of_task task) run c.args.times (basis_of_task task declared_order) g.row.N (suc c.args.t)
+    run-within (pay_of_task task) run c.args.times (basis_of_task task Declared) g.row.N (suc c.args.t)
     (c.args.to - c.args.t) (bits g.row.N c.args.set) c.args.later refl c.requires.task.valid.vary c.requires.times
     (omega
     (arith, c.requires.time, c.requires.run.to, last-in task.pay.now.kind task.horizon, c.requires.task.horizon_in))
-    (c.requires.later declared_order) in
+    (c.requires.later Declared) in
     let bound = c.carried-value.ensures.carries.bound (10 ^ 14) (omega (arith, ints, within.high)) in
     record { low = omega (arith, ints, c.carried-value.ensures.carries.from); high = omega (arith, ints, bound) }
 

@@ -3,7 +3,7 @@ use Rattle.std.specs.Int.{w64}
 use Rattle.std.proofs.lemmas.Int.{ints, to_z-of_z}
 use Rattle.halo_model.specs.Backward.{above_zero, below_zero}
 use Rattle.halo_poly.specs.Poly.{coefficient_at}
-use Rattle.halo_model.specs.Order.{declared_order}
+use Rattle.halo_contract.specs.declared.ties.Ties.TheVariants.{Declared}
 use Rattle.halo_annuity.proofs.Terms.{coefficient, coefficient-small, held-in-form, held-run, held-times, part-encloses, term-narrow, term-small, term-within, to-horizon, turned, both-ways, zero-encloses}
 use Rattle.halo_annuity.proofs.term.term_value.Goals as goal
 
@@ -57,7 +57,7 @@ sub-requires-clause-o_in g c =
     (c.above_zero.ensures.value ∙ ap above_zero (back ∙ e))
     (c.below_zero-below.ensures.value ∙ ap below_zero (back ∙ e)) c.paid_in_run-worth.ensures.worth in
     let small = term-small c.args.task.now c.requires.task c.start-start.ensures.group c.args.segment
-    c.args.set c.requires.segment c.requires.set declared_order c.paid_in_run-worth.result (held declared_order) in
+    c.args.set c.requires.segment c.requires.set Declared c.paid_in_run-worth.result (held Declared) in
     record { low = omega (arith, ints, small.low); high = omega (arith, ints, small.high) }
 
 pub returns-then-below-gt0-clause-encloses : goal.returns-then-below-gt0-clause-encloses

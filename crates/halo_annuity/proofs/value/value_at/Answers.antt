@@ -3,7 +3,7 @@ use Rattle.std.proofs.lemmas.Int.{ints}
 use Rattle.halo_sums.specs.Masks.{has_bit}
 use Rattle.halo_num.specs.Ends.{fine}
 use Rattle.halo_model.specs.Counts.{measures_of, most_worth}
-use Rattle.halo_model.specs.Order.{declared_order}
+use Rattle.halo_contract.specs.declared.ties.Ties.TheVariants.{Declared}
 use Rattle.halo_model.specs.Value.{denominator, numerator}
 use Rattle.halo_life.specs.Total.{total_of}
 use Rattle.halo_compile.specs.OfTask.{basis_of_task, pay_of_task}
@@ -29,15 +29,15 @@ between-requires-clause-meets_most g c =
     let task = c.args.task.now in
     let group = c.start-start.ensures.group in
     let interest = c.fractions-fractions.ensures.interest in
-    let b = basis_of_task task declared_order in
+    let b = basis_of_task task Declared in
     let held =
     same-annuity task c.args.t c.args.alive c.total-total.result (total_of c.args.work.now g.row.M c.args.alive)
     c.total-total.ensures.lo c.total-total.ensures.hi
     (held-annuity task r.task group c.args.t r.time c.args.work.now r.values r.annuity interest c.args.alive r.alive) in
     meets-above c.total-total.result (numerator b (pay_of_task task) c.args.t (has_bit c.args.alive))
     (denominator b c.args.t (has_bit c.args.alive)) c.most_worth.result
-    (some-denominator task group interest c.args.t c.args.alive r.alive) (held.encloses declared_order)
-    (value-above task r.task group r.annuity declared_order c.args.t r.time c.args.alive c.most_worth.result
+    (some-denominator task group interest c.args.t c.args.alive r.alive) (held.encloses Declared)
+    (value-above task r.task group r.annuity Declared c.args.t r.time c.args.alive c.most_worth.result
     c.most_worth.ensures.value)
 
 pub between-requires-clause-meets_least : goal.between-requires-clause-meets_least
@@ -46,15 +46,15 @@ between-requires-clause-meets_least g c =
     let task = c.args.task.now in
     let group = c.start-start.ensures.group in
     let interest = c.fractions-fractions.ensures.interest in
-    let b = basis_of_task task declared_order in
+    let b = basis_of_task task Declared in
     let held =
     same-annuity task c.args.t c.args.alive c.total-total.result (total_of c.args.work.now g.row.M c.args.alive)
     c.total-total.ensures.lo c.total-total.ensures.hi
     (held-annuity task r.task group c.args.t r.time c.args.work.now r.values r.annuity interest c.args.alive r.alive) in
     meets-below c.total-total.result (numerator b (pay_of_task task) c.args.t (has_bit c.args.alive))
     (denominator b c.args.t (has_bit c.args.alive)) c.least_worth.result
-    (some-denominator task group interest c.args.t c.args.alive r.alive) (held.encloses declared_order)
-    (value-below task r.task group r.annuity declared_order c.args.t r.time c.args.alive c.least_worth.result
+    (some-denominator task group interest c.args.t c.args.alive r.alive) (held.encloses Declared)
+    (value-below task r.task group r.annuity Declared c.args.t r.time c.args.alive c.least_worth.result
     c.least_worth.ensures.one)
 
 pub returns-clause-encloses : goal.returns-clause-encloses

@@ -5,7 +5,7 @@ use Rattle.halo_status.specs.StatusTree.{tree_of, trees_in}
 use Rattle.halo_status.specs.View.{is_on}
 use Rattle.halo_status.proofs.Lists.{member_count-trees_in, nodes-After, nodes-list}
 use Rattle.halo_status.proofs.Shapes.{tree_of-After, tree_of-AtLeast, tree_of-Exactly, tree_of-Joint, tree_of-Last, tree_of-Life, tree_of-Term}
-use Rattle.halo_model.proofs.Longest.{nodes-at}
+use Rattle.halo_status.proofs.NamedMembers.{nodes-at}
 use Rattle.halo_chance.proofs.Costs.{cost-after, cost-leaf, cost-list, cost-member, cost-none, cost-nothing, length-nodes}
 use Rattle.halo_chance.proofs.Enclosing.{all-more, encloses-after, encloses-at_least, encloses-exactly, encloses-joint, encloses-last, encloses-life, encloses-none, encloses-term, none-more}
 use Rattle.halo_chance.proofs.Parts.{drop-all, named-first, named-life, named-list, named-member, named-then, split-before}

@@ -3,7 +3,7 @@ use Rattle.std.proofs.Common.{◌≡◌, ◌-◌, arith, true, length}
 use Rattle.halo_status.specs.StatusTree.{trees_in}
 use Rattle.halo_status.specs.View.{is_on}
 use Rattle.halo_model.specs.PartsByTree.{others_of}
-use Rattle.halo_model.proofs.Longest.{nodes-at}
+use Rattle.halo_status.proofs.NamedMembers.{nodes-at}
 use Rattle.halo_chance.proofs.Costs.{cost-member, cost-none, length-nodes}
 use Rattle.halo_chance.proofs.Others.{others-all, others-at, others-next, others-none}
 use Rattle.halo_chance.proofs.Parts.{named-member}

@@ -1,7 +1,7 @@
 use Rattle.std.proofs.Common.{[], get_or, map, take, arith}
 use Rattle.halo_status.specs.Pay.{pay_of}
 use Rattle.halo_model.specs.Line.{IsPayLine}
-use Rattle.halo_model.specs.Premium.{all_lives}
+use Rattle.halo_contract.specs.Premium.{all_lives}
 use Rattle.halo_model.proofs.Benefits.{no-benefits, one-benefit-more}
 use Rattle.halo_model.proofs.Printing.{pay-has-line}
 use Rattle.halo_lines.proofs.PayByPay.{pay-at, zip-push}

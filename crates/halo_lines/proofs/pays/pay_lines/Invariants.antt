@@ -1,7 +1,7 @@
 -- The pays so far have their lines.
 use Rattle.std.proofs.Common.{map, take}
 use Rattle.halo_model.specs.Basis.{Basis}
-use Rattle.halo_model.specs.Premium.{all_lives}
+use Rattle.halo_contract.specs.Premium.{all_lives}
 use Rattle.halo_status.specs.Pay.{pay_of}
 use Rattle.halo_lines.specs.PayLines.{ArePayLines}
 use Rattle.halo_lines.specs.Values.{AreValues}

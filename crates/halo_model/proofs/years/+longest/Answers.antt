@@ -1,7 +1,8 @@
 -- Each call is given what its part of the tree needs, and goes down in it.
 use Rattle.std.proofs.Common.{arith, sym, ◌∙◌}
 use Rattle.halo_status.proofs.Lists.{nodes-After, nodes-list}
-use Rattle.halo_model.proofs.Longest.{at_life, at_term, first_of, member_of, members_of_list, nodes-at, taken, then_of, years_at}
+use Rattle.halo_model.proofs.Longest.{at_life, at_term, first_of, member_of, members_of_list, taken, then_of, years_at}
+use Rattle.halo_status.proofs.NamedMembers.{nodes-at}
 use Rattle.halo_model.proofs.years.+longest.Goals as goal
 
 pub longest-bounds-lives-from : goal.longest-bounds-lives-from

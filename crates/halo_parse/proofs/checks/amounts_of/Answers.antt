@@ -1,7 +1,7 @@
 use Rattle.std.proofs.Common.{◌+◌, ◌∙◌, arith, ap, map, refl, sym}
 use Rattle.std.proofs.lemmas.List.{take_all}
 use Rattle.halo_status.specs.Pay.{pay_of}
-use Rattle.halo_parse.specs.Draft.{amount_of_all}
+use Rattle.halo_contract.specs.PlainContract.{amount_of_all}
 use Rattle.halo_parse.proofs.Amounts.{amounts_more, amounts_within}
 use Rattle.halo_parse.proofs.checks.amounts_of.Goals as goal
 

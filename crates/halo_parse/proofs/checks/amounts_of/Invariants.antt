@@ -1,6 +1,6 @@
 use Rattle.std.specs.Prelude.{◌≡◌, map, take}
 use Rattle.halo_status.specs.Pay.{pay_of}
-use Rattle.halo_parse.specs.Draft.{amount_of_all}
+use Rattle.halo_contract.specs.PlainContract.{amount_of_all}
 use Rattle.halo_parse.proofs.checks.amounts_of.Given as goal
 
 abbrev pub invariant-loop-pay : goal.invariant-loop-pay

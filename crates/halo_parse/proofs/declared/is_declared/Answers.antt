@@ -1,7 +1,8 @@
 use Rattle.std.proofs.Common.{◌≡◌, ◌<◌, subst, sym, IsTrue, ◌↔◌}
 use Rattle.std.specs.Prelude.{Contains, IfSome}
 use Rattle.std.proofs.lemmas.List.{length-map}
-use Rattle.halo_parse.specs.Draft.{life_names, place_of}
+use Rattle.halo_parse.specs.Draft.{place_of}
+use Rattle.halo_contract.specs.PlainContract.{life_names}
 use Rattle.halo_parse.proofs.PlacesOfLives.{IsSome-place}
 use Rattle.halo_parse.proofs.declared.is_declared.Goals as goal
 

@@ -2,7 +2,7 @@ use Rattle.std.proofs.Common.{◌<◌, ◌≡◌, ◌∙◌, [], arith, get_or, 
 use Rattle.std.proofs.lemmas.List.{length-map}
 use Rattle.std.proofs.lemmas.Slice.Eq.{bytes_eq-Decides}
 use borrow.Author.Count.{below_more}
-use Rattle.halo_parse.specs.Draft.{life_names}
+use Rattle.halo_contract.specs.PlainContract.{life_names}
 use Rattle.halo_parse.proofs.PlacesOfLives.{get_or-life_names, none_of_all, place_of-first}
 use Rattle.halo_parse.proofs.declared.place_of_life.Goals as goal
 

@@ -1,4 +1,4 @@
-use Rattle.halo_parse.specs.Draft.{life_names}
+use Rattle.halo_contract.specs.PlainContract.{life_names}
 use Rattle.halo_parse.proofs.PlacesOfLives.{NoneBefore}
 use Rattle.halo_parse.proofs.declared.place_of_life.Given as goal
 

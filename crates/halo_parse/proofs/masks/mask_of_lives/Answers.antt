@@ -1,7 +1,8 @@
 -- The mask so far grows by the bit of a life that is named.
 use Rattle.std.proofs.Common.{◌≡◌, ◌<◌, ◌∙◌, map, length, sym, ap, arith}
 use Rattle.std.proofs.lemmas.List.{length-map}
-use Rattle.halo_parse.specs.Draft.{is_among, life_names}
+use Rattle.halo_parse.specs.Draft.{is_among}
+use Rattle.halo_contract.specs.PlainContract.{life_names}
 use Rattle.halo_parse.proofs.MasksOfTests.{mask_with, mask_without}
 use Rattle.halo_parse.proofs.PlacesOfLives.{get_or-life_names}
 use Rattle.halo_parse.proofs.masks.mask_of_lives.Goals as goal

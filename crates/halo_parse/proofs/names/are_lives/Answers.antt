@@ -1,6 +1,6 @@
 use Rattle.std.proofs.Common.{refl, arith}
 use Rattle.std.specs.Prelude.{Contains}
-use Rattle.halo_parse.specs.Draft.{life_names}
+use Rattle.halo_contract.specs.PlainContract.{life_names}
 use Rattle.halo_parse.proofs.Each.{each_done, each_more, each_none, not_each}
 use Rattle.halo_parse.proofs.names.are_lives.Goals as goal
 

@@ -1,5 +1,5 @@
 use Rattle.std.specs.Prelude.{All, Contains, map, take}
-use Rattle.halo_parse.specs.Draft.{life_names}
+use Rattle.halo_contract.specs.PlainContract.{life_names}
 use Rattle.halo_parse.proofs.names.are_lives.Given as goal
 
 abbrev pub invariant-loop-name : goal.invariant-loop-name

@@ -2,7 +2,7 @@
 use Rattle.std.proofs.Common.{map}
 use Rattle.std.specs.Prelude.{Some}
 use Rattle.std.specs.Option.{option_map, option_to_list}
-use Rattle.halo_parse.specs.Draft.{life_names}
+use Rattle.halo_contract.specs.PlainContract.{life_names}
 use Rattle.halo_status.specs.Pay.{pay_of}
 use Rattle.halo_spell.specs.ContractText.{contract_text, interest_lines, life_line, pay_line, premium_line, reserve_line, ties_lines}
 use Rattle.halo_spell.proofs.LinesLeft.{six_written}

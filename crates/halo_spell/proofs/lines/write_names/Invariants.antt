@@ -1,6 +1,6 @@
 -- What was written and the names that are left make all names of the set.
 use Rattle.std.proofs.Common.{◌≡◌, ◌++◌, drop}
-use Rattle.halo_parse.specs.Draft.{life_names}
+use Rattle.halo_contract.specs.PlainContract.{life_names}
 use Rattle.halo_spell.specs.Canonical.{names_in}
 use Rattle.halo_spell.specs.LineText.{names_text}
 use Rattle.halo_spell.proofs.lines.write_names.Given as goal

@@ -1,6 +1,6 @@
 -- What was written and the lines that are left make all lines.
 use Rattle.std.proofs.Common.{◌≡◌, ◌++◌, drop, map}
-use Rattle.halo_parse.specs.Draft.{life_names}
+use Rattle.halo_contract.specs.PlainContract.{life_names}
 use Rattle.halo_status.specs.Pay.{pay_of}
 use Rattle.halo_spell.specs.ContractText.{lines_text, pay_line}
 use Rattle.halo_spell.proofs.lines.write_pays.Given as goal

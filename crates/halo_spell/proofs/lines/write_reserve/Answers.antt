@@ -1,7 +1,7 @@
 -- The words of the line, with a space between each two.
 use Rattle.std.specs.Fmt.{decimal}
 use Rattle.std.proofs.lemmas.Result.{IfOk-equal}
-use Rattle.halo_parse.specs.Draft.{life_names}
+use Rattle.halo_contract.specs.PlainContract.{life_names}
 use Rattle.halo_spell.specs.Canonical.{names_in}
 use Rattle.halo_spell.proofs.LinesLeft.{join_words, reserve_written}
 use Rattle.halo_spell.proofs.lines.write_reserve.Goals as goal

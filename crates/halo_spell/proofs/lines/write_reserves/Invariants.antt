@@ -1,6 +1,6 @@
 -- What was written and the lines that are left make all lines.
 use Rattle.std.proofs.Common.{◌≡◌, ◌++◌, drop, map}
-use Rattle.halo_parse.specs.Draft.{life_names}
+use Rattle.halo_contract.specs.PlainContract.{life_names}
 use Rattle.halo_spell.specs.ContractText.{lines_text, reserve_line}
 use Rattle.halo_spell.proofs.lines.write_reserves.Given as goal
 

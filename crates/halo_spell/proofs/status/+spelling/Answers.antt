@@ -4,10 +4,10 @@ use Rattle.std.proofs.lemmas.List.{drop_all}
 use Rattle.halo_symbol.specs.Bytes.{members_bytes}
 use Rattle.halo_symbol.specs.Tree.{reversion}
 use Rattle.std.proofs.lemmas.Result.{IfOk-equal}
-use Rattle.halo_model.proofs.Longest.{nodes-at}
+use Rattle.halo_status.proofs.NamedMembers.{nodes-at}
 use Rattle.halo_status.proofs.Lists.{nodes-After, nodes-list}
 use Rattle.halo_status.proofs.LivesNamed.{names_below_first, names_below_members, names_below_second}
-use Rattle.halo_parse.specs.Draft.{life_names}
+use Rattle.halo_contract.specs.PlainContract.{life_names}
 use Rattle.halo_status.proofs.Shapes.{tree_of-After, tree_of-AtLeast, tree_of-Exactly, tree_of-Last, tree_of-Life, tree_of-Term}
 use Rattle.halo_status.specs.StatusTree.{tree_of, trees_in}
 use Rattle.halo_symbol.specs.Characters.{round_close, stroke}

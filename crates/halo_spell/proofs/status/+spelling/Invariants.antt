@@ -1,6 +1,6 @@
 -- The measures are nodes: each call goes down in the tree. The members that were written and those that are left are all members.
 use Rattle.std.proofs.Common.{◌≡◌, ◌+◌, ◌*◌, ◌++◌, drop}
-use Rattle.halo_parse.specs.Draft.{life_names}
+use Rattle.halo_contract.specs.PlainContract.{life_names}
 use Rattle.halo_status.specs.Nodes.{nodes, nodes_in}
 use Rattle.halo_status.specs.StatusTree.{tree_of, trees_in}
 use Rattle.halo_spell.proofs.MembersLeft.{left_from}

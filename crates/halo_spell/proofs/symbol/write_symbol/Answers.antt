@@ -1,6 +1,6 @@
 -- The parts make the symbol.
 use Rattle.std.proofs.Common.{◌∙◌, ◌++◌, ap, sym}
-use Rattle.halo_parse.specs.Draft.{life_names}
+use Rattle.halo_contract.specs.PlainContract.{life_names}
 use Rattle.halo_status.specs.Pay.{pay_of}
 use Rattle.halo_spell.specs.Canonical.{canonical_symbol}
 use Rattle.halo_spell.proofs.Symbols.{parts_written, symbol_bytes-parts}

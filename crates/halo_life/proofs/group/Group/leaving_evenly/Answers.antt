@@ -5,7 +5,7 @@ use Rattle.halo_sums.specs.Masks.{bits, has_bit}
 use Rattle.halo_sums.specs.Sets.{in_set}
 use Rattle.halo_sums.specs.Sums.{numbers_from}
 use Rattle.halo_life.specs.YearOfLives.{EnclosesFirst, numbers_of}
-use Rattle.halo_model.specs.Order.{all_orders}
+use Rattle.halo_contract.specs.declared.ties.Ties.TheVariants.{Even}
 use Rattle.halo_life.proofs.Firsts.{IsCut, IsSumTo, count-with, evenly-enclosed, size-some, sum-with, sum-without}
 use Rattle.halo_life.proofs.OneSet.{size-of-lives}
 use Rattle.halo_life.proofs.group.Group.leaving_evenly.Goals.{then-has_bit, else-has_bit}
@@ -22,7 +22,7 @@ loop-life-preserved g c =
     elim c.if-has_bit.branch [
       | then-has_bit w ↦
           let there : has_bit set life ≡ true = sym c.has_bit.ensures ∙ w.if-has_bit.true in
-          let first : EnclosesFirst all_orders n numbers set life w.as_first.result =
+          let first : EnclosesFirst Even n numbers set life w.as_first.result =
           rw c.requires.rule at w.as_first.ensures.first in
           record {
             count = omega (arith, w.count-is, i.count, count-with n numbers set life low true there);

@@ -1,5 +1,5 @@
 use Rattle.std.proofs.Common.{◌^◌, ◌<◌, lit<, arith, sym, ◌∙◌}
-use Rattle.halo_model.specs.Order.{declared_order}
+use Rattle.halo_contract.specs.declared.ties.Ties.TheVariants.{Declared}
 use Rattle.halo_life.specs.YearOfLives.{EnclosesFirst, numbers_of}
 use Rattle.halo_life.proofs.Firsts.{IsCut, in-order-enclosed, is-declared, is-even, size-some}
 use Rattle.halo_life.proofs.Within.{bit-below}
@@ -45,7 +45,7 @@ returns-else-is_even-clause-leaving g c =
     let rule = is-declared c.args.self.now.ties (sym c.is_even.ensures.value ∙ c.if-is_even.false) in
     let below : c.args.set < 2 ^ n = omega (arith, c.requires.below, c.requires.sets) in
     let there = c.first_of.ensures.within in
-    let first : EnclosesFirst declared_order n numbers c.args.set c.first_of.result c.as_first-first.result =
+    let first : EnclosesFirst Declared n numbers c.args.set c.first_of.result c.as_first-first.result =
     rw rule at c.as_first-first.ensures.first in
     let cut : IsCut c.as_first-first.result c.clamp.result =
     record { lo = c.clamp.ensures.lo; hi = c.clamp.ensures.hi; encloses = c.clamp.ensures.encloses } in

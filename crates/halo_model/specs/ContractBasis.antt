@@ -1,12 +1,13 @@
--- The basis of a valuation: yearly interest, and lives in their tables.
-use Rattle.std.specs.Prelude.{List}
+-- The basis of a contract: its yearly interest, its lives in their tables, and its rule for ties.
+use Rattle.std.specs.Prelude.{List, map}
 use Rattle.halo_interest.specs.declared.rate.Rate.{Rate}
 use Rattle.halo_interest.specs.Rates.{rate_of}
 use Rattle.halo_table.specs.DecrementTable.{TableFile}
 use Rattle.halo_table.specs.declared.lives.Life.{Life}
+use Rattle.halo_contract.specs.PlainContract.{PlainContract}
+use Rattle.halo_contract.specs.declared.ties.Ties.{Ties}
 use Rattle.halo_model.specs.Basis.{Basis}
 use Rattle.halo_model.specs.FromTables.{lives_of}
-use Rattle.halo_model.specs.Order.{Ties}
 
 -- interest by years, lives in their tables, and a rule for ties; payments are looked at up to time
 -- 200
@@ -18,3 +19,8 @@ basis_of file rates lives ties = record {
   lives = lives_of file lives;
   ties = ties;
 }
+
+-- the basis of a contract with the tables of a file
+abbrev pub contract_basis : TableFile → PlainContract → Basis
+contract_basis file contract =
+    basis_of file contract.interest (map (λ declared. declared.life) contract.lives) contract.ties

@@ -1,5 +1,5 @@
-// What a contract file writes.
-use crate::ties::Ties;
+// A contract, as its file writes it.
+use crate::Ties;
 use halo_interest::Interest;
 use halo_status::Pay;
 use halo_table::{Life, Name};

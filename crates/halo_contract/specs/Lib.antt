@@ -1,0 +1,4 @@
+-- What a contract is, and which contracts can be valued.
+pub mod PlainContract
+pub mod Premium
+pub mod ValidContract
