@@ -21,6 +21,9 @@ pub mod LaterRates
 pub mod Passed
 pub mod PlacesOfLives
 pub mod Lengths
+pub mod MasksOfNames
+pub mod ValidInterest
+pub mod ValidReserves
 pub mod ValidPays
 pub mod LivesPlaced
 pub mod SameLives

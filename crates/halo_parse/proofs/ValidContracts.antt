@@ -1,54 +1,164 @@
--- The pays of a contract that a file writes are valid.
-use Rattle.std.proofs.Common.{◌≤◌, ℕ, List, [], ◌∷◌, ◌++◌, IfSome, length, length-append, inl, inr, subst, sym, arith}
-use Rattle.std.specs.Prelude.{Option, Some, None}
-use Rattle.std.proofs.lemmas.List.Elements.{All-nil, All-push, All-weaker}
+-- A contract that a file writes is valid.
+use Rattle.std.proofs.Common.{◌≡◌, ◌≢◌, ◌<◌, ◌≤◌, ℕ, List, [], ◌∷◌, ◌++◌, IfSome, length, inl, inr, subst, sym, refl, arith}
+use Rattle.std.specs.Prelude.{All, None, Option, Some, unwrap_or}
+use Rattle.std.proofs.lemmas.List.{length_push}
+use Rattle.std.proofs.lemmas.List.Elements.{All-nil, All-push}
+use Rattle.halo_contract.specs.PlainContract.{life_names}
+use Rattle.halo_contract.specs.ValidContract.{IsValidAmong, IsValidContract, IsValidPremium, IsValidReserve}
+use Rattle.halo_contract.specs.declared.contract.LifeLine.{LifeLine}
+use Rattle.halo_contract.specs.declared.contract.ReserveLine.{ReserveLine}
+use Rattle.halo_interest.specs.Rates.{IsInterest}
+use Rattle.halo_interest.specs.declared.rate.Rate.{Rate}
 use Rattle.halo_status.specs.Pay.{PlainPay}
-use Rattle.halo_table.specs.DecrementTable.{TableFile}
+use Rattle.halo_table.specs.DecrementTable.{TableFile, names_of}
+use Rattle.halo_text.specs.Number.{number}
+use Rattle.halo_parse.specs.Addition.{IsKept}
 use Rattle.halo_parse.specs.Checks.{PassesAll}
-use Rattle.halo_parse.specs.ContractLaws.{ContractsAreValid, HasValidPays}
-use Rattle.halo_contract.specs.ValidContract.{IsValidAmong, IsValidPremium}
-use Rattle.halo_parse.specs.Draft.{Draft, empty_draft, with_line}
-use Rattle.halo_parse.specs.Faults.{MakesDraft}
+use Rattle.halo_parse.specs.ContractLaws.{ContractsAreValid}
+use Rattle.halo_parse.specs.Draft.{Draft, contract_made, empty_draft, mask_of_names, pay_written, place_of, with_line}
+use Rattle.halo_parse.specs.Faults.{IsWhole, MakesDraft}
 use Rattle.halo_parse.specs.FileLines.{lines_of}
+use Rattle.halo_parse.specs.Forms.{IsInOrder}
 use Rattle.halo_parse.specs.Line.{Line, interest, life, ties, pay, premium, reserve}
 use Rattle.halo_parse.specs.ProperLine.{IsProperLine}
-use Rattle.halo_contract.specs.declared.contract.LifeLine.{LifeLine}
+use Rattle.halo_parse.specs.declared.fault.ContractKind.TheVariants as kind
+use Rattle.halo_parse.specs.declared.form.Form.TheVariants as form
+use Rattle.halo_parse.proofs.Kept.{kept_at_first, kept_by_line}
+use Rattle.halo_parse.proofs.ValidInterest.{valid_interest}
 use Rattle.halo_parse.proofs.ValidPays.{pays_are_valid, premiums_are_valid}
+use Rattle.halo_parse.proofs.ValidReserves.{valid_reserve}
 
--- what is valid among some lives is so among more
-module _ (fewer more : ℕ) (below : fewer ≤ more) where
-  among_more : (p : PlainPay) → IsValidAmong fewer p → IsValidAmong more p
-  among_more p before = record { valid = before.valid; named = (λ i named. let lt = before.named i named in omega arith) }
+-- what the lines so far have said, each of which passed the checks, is valid
+record IsValidDraft (tables : TableFile) (d : Draft) : Type 0 where
+  pub kept : IsKept tables d
+  pub interest : IfSome d.interest IsInterest
+  pub few_pays : length d.pays ≤ 64
+  pub pays : All (IsValidAmong (length d.lives) (length tables.causes)) d.pays
+  pub premium : IfSome d.premium (IsValidPremium (length d.lives) (length tables.causes))
+  pub few_reserves : length d.reserves ≤ 64
+  pub reserves : All (IsValidReserve tables d.lives) d.reserves
 
-  premium_more : (p : Option PlainPay) → IfSome p (IsValidPremium fewer) → IfSome p (IsValidPremium more)
-  premium_more None before = tt
-  premium_more (Some p) before = record { valid = among_more p before.valid; at_start = before.at_start }
+valid_at_first : (tables : TableFile) → IsValidDraft tables empty_draft
+valid_at_first tables = record {
+  kept = kept_at_first tables;
+  interest = tt;
+  few_pays = omega arith;
+  pays = All-nil (IsValidAmong 0 (length tables.causes));
+  premium = tt;
+  few_reserves = omega arith;
+  reserves = All-nil (IsValidReserve tables []);
+}
 
--- one more life leaves them valid
-one_life_more : (d : Draft) (line : LifeLine) → HasValidPays d → HasValidPays (record d { lives = d.lives ++ line ∷ [] })
-one_life_more d line before =
-    let fewer = length d.lives in
-    let more = length (d.lives ++ line ∷ []) in
-    let below : fewer ≤ more = omega (arith, length-append d.lives (line ∷ [])) in
-    record { pays = All-weaker (IsValidAmong fewer) (IsValidAmong more) (among_more fewer more below) d.pays before.pays; premium = premium_more fewer more below d.premium before.premium }
+-- where a life line stands in order, no line of a later form came before it, and what holds of each
+-- thing that those say holds there
+module _ (d : Draft) (in_order : IsInOrder d form.Life) where
+  no_pays : (P : PlainPay → Type 0) → All P d.pays
+  no_pays P i p within = let some : 0 < length d.pays = omega arith in absurd (omega (arith, in_order form.Pay some))
 
--- a line that passes all checks keeps the pays valid
-kept : (tables : TableFile) (d : Draft) (l : Line) → IsProperLine l → PassesAll tables d l → HasValidPays d → HasValidPays (with_line tables d l)
+  no_reserves : (P : ReserveLine → Type 0) → All P d.reserves
+  no_reserves P i r within = let some : 0 < length d.reserves = omega arith in absurd (omega (arith, in_order form.Reserve some))
+
+  no_premium : (P : PlainPay → Type 0) → IfSome d.premium P
+  no_premium P = none d.premium (λ some. omega (arith, in_order form.Premium some))
+    where
+      none : (premium : Option PlainPay) → (premium ≢ None → ⊥) → IfSome premium P
+      none None absent = tt
+      none (Some p) absent = absurd (absent (λ same. absurd cc))
+
+-- a line that passes all checks keeps it so
+valid_by_line : (tables : TableFile) (d : Draft) (l : Line) → IsProperLine l → PassesAll tables d l
+    → IsValidDraft tables d → IsValidDraft tables (with_line tables d l)
 unfolding with_line
-kept tables d (interest p q rates) proper passes before = record { pays = before.pays; premium = before.premium }
-kept tables d (life name table age) proper passes before = one_life_more d _ before
-kept tables d (ties r) proper passes before = record { pays = before.pays; premium = before.premium }
-kept tables d (pay amount s) proper passes before =
-    record { pays = All-push (IsValidAmong (length d.lives)) d.pays _ before.pays (pays_are_valid tables d amount s proper passes); premium = before.premium }
-kept tables d (premium body) proper passes before = record { pays = before.pays; premium = premiums_are_valid tables d body proper passes }
-kept tables d (reserve time names) proper passes before = record { pays = before.pays; premium = before.premium }
+valid_by_line tables d (interest p q rates) proper passes before = record {
+  kept = kept_by_line tables d (interest p q rates) before.kept passes;
+  interest = valid_interest tables d p q rates passes;
+  few_pays = before.few_pays;
+  pays = before.pays;
+  premium = before.premium;
+  few_reserves = before.few_reserves;
+  reserves = before.reserves;
+}
+valid_by_line tables d (life name table age) proper passes before =
+    let added : LifeLine = record { name = name; life = record { table = place_of (names_of tables.tables) table; age = number age } } in
+    let lives = d.lives ++ added ∷ [] in
+    record {
+      kept = kept_by_line tables d (life name table age) before.kept passes;
+      interest = before.interest;
+      few_pays = before.few_pays;
+      pays = no_pays d (passes kind.Order) (IsValidAmong (length lives) (length tables.causes));
+      premium = no_premium d (passes kind.Order) (IsValidPremium (length lives) (length tables.causes));
+      few_reserves = before.few_reserves;
+      reserves = no_reserves d (passes kind.Order) (IsValidReserve tables lives);
+    }
+valid_by_line tables d (ties r) proper passes before = record {
+  kept = kept_by_line tables d (ties r) before.kept passes;
+  interest = before.interest;
+  few_pays = before.few_pays;
+  pays = before.pays;
+  premium = before.premium;
+  few_reserves = before.few_reserves;
+  reserves = before.reserves;
+}
+valid_by_line tables d (pay amount s) proper passes before =
+    let added = pay_written (life_names d.lives) tables.causes amount s in
+    record {
+      kept = kept_by_line tables d (pay amount s) before.kept passes;
+      interest = before.interest;
+      few_pays = omega (arith, length_push d.pays added, (passes kind.Magnitude).2);
+      pays = All-push (IsValidAmong (length d.lives) (length tables.causes)) d.pays added before.pays (pays_are_valid tables d amount s proper passes);
+      premium = before.premium;
+      few_reserves = before.few_reserves;
+      reserves = before.reserves;
+    }
+valid_by_line tables d (premium body) proper passes before = record {
+  kept = kept_by_line tables d (premium body) before.kept passes;
+  interest = before.interest;
+  few_pays = before.few_pays;
+  pays = before.pays;
+  premium = premiums_are_valid tables d body proper passes;
+  few_reserves = before.few_reserves;
+  reserves = before.reserves;
+}
+valid_by_line tables d (reserve time names) proper passes before =
+    let added : ReserveLine = record { time = number time; alive = mask_of_names (life_names d.lives) names } in
+    record {
+      kept = kept_by_line tables d (reserve time names) before.kept passes;
+      interest = before.interest;
+      few_pays = before.few_pays;
+      pays = before.pays;
+      premium = before.premium;
+      few_reserves = omega (arith, length_push d.reserves added, (passes kind.Magnitude).2);
+      reserves = All-push (IsValidReserve tables d.lives) d.reserves added before.reserves (valid_reserve tables d time names before.kept passes);
+    }
 
-all_kept : (tables : TableFile) (d : Draft) (texts : List (List ℕ)) (contract : Draft) → HasValidPays d → MakesDraft tables d texts contract → HasValidPays contract
-all_kept tables d [] contract before makes = subst HasValidPays (sym makes) before
-all_kept tables d (text ∷ texts) contract before (inl silent) = all_kept tables d texts contract before silent.1
-all_kept tables d (text ∷ texts) contract before (inr (l, fine, rest)) =
-    all_kept tables (with_line tables d l) texts contract (kept tables d l fine.spells.proper fine.passes before) rest
+valid_by_lines : (tables : TableFile) (d final : Draft) (texts : List (List ℕ)) → IsValidDraft tables d
+    → MakesDraft tables d texts final → IsValidDraft tables final
+valid_by_lines tables d final [] before makes = subst (IsValidDraft tables) (sym makes) before
+valid_by_lines tables d final (text ∷ texts) before (inl silent) = valid_by_lines tables d final texts before silent.1
+valid_by_lines tables d final (text ∷ texts) before (inr (l, fine, rest)) =
+    valid_by_lines tables (with_line tables d l) final texts (valid_by_line tables d l fine.spells.proper fine.passes before) rest
+
+interest_made : (interest : Option (List Rate)) → interest ≢ None → IfSome interest IsInterest → IsInterest (unwrap_or interest [])
+interest_made None some valid = absurd (some refl)
+interest_made (Some rates) some valid = valid
+
+-- a whole draft that is valid makes a valid contract
+valid_made : (tables : TableFile) (d : Draft) → IsWhole d → IsValidDraft tables d → IsValidContract tables (contract_made d)
+valid_made tables d whole valid = record {
+  interest = interest_made d.interest whole.interest valid.interest;
+  some_lives = omega (arith, whole.life);
+  few_lives = valid.kept.few_lives;
+  rows = valid.kept.rows;
+  some_pays = omega (arith, whole.pay);
+  few_pays = valid.few_pays;
+  amounts = valid.kept.amounts;
+  pays = valid.pays;
+  premium = valid.premium;
+  few_reserves = valid.few_reserves;
+  reserves = valid.reserves;
+}
 
 pub contracts_are_valid : ContractsAreValid
 contracts_are_valid tables bytes contract writes =
-    all_kept tables empty_draft (lines_of bytes) contract (record { pays = All-nil (IsValidAmong 0); premium = tt }) writes.lines
+    let valid = valid_by_lines tables empty_draft writes.draft (lines_of bytes) (valid_at_first tables) writes.lines in
+    subst (IsValidContract tables) (sym writes.made) (valid_made tables writes.draft writes.whole valid)

@@ -22,6 +22,7 @@ use Rattle.halo_parse.specs.Limits.{any_life, IsUpTo, IsVaryWithin}
 use Rattle.halo_parse.specs.declared.fault.ContractKind.TheVariants as kind
 use Rattle.halo_parse.proofs.Lengths.{lengths-body, lengths-content}
 use Rattle.halo_parse.proofs.LivesPlaced.{placed-body, placed-content}
+use Rattle.halo_parse.proofs.MasksOfNames.{causes_of-lt}
 use Rattle.halo_parse.proofs.Nodes.{nodes-tree_of_body, nodes-tree_of_symbol}
 use Rattle.halo_parse.proofs.ShortLists.{member_count-trees, short_lists-status, short_lists-symbol}
 
@@ -81,6 +82,7 @@ pays_are_valid tables d amount s proper passes =
         mark = valid_mark (place_of names) s.kind s.mark s.body symbol.allowed.mark (passes kind.Rank).1 (passes kind.Shared);
       };
       named = rw (← length-map d.lives (λ line. line.name)) (placed-content names s.mark s.body (passes kind.NoLife));
+      by_cause = causes_of-lt tables.causes s.causes;
     }
 
 pub premiums_are_valid : PremiumsAreValid
@@ -88,7 +90,7 @@ premiums_are_valid tables d body proper passes =
     let within = passes kind.Magnitude in
     let names = life_names d.lives in
     record {
-      valid = record {
+      among = record {
         valid = record {
           amount_from = omega arith;
           amount_in = omega arith;
@@ -103,6 +105,8 @@ premiums_are_valid tables d body proper passes =
           mark = tt;
         };
         named = rw (← length-map d.lives (λ line. line.name)) (placed-body names body (passes kind.NoLife));
+        by_cause = tt;
       };
+      level = refl;
       at_start = passes kind.NotAtStart;
     }

@@ -5,7 +5,7 @@ use Rattle.std.proofs.lemmas.Bool.{cases_Bool}
 use Rattle.halo_symbol.specs.Characters.{round_close, round_open}
 use Rattle.halo_table.specs.DecrementTable.{TableFile}
 use Rattle.halo_parse.specs.Depth.{IsShallow, count_of}
-use Rattle.halo_parse.specs.Draft.{Draft, empty_draft, with_line}
+use Rattle.halo_parse.specs.Draft.{Draft, contract_made, empty_draft, with_line}
 use Rattle.halo_parse.specs.Faults.{FirstFaultOf, HasFault, IsFine, IsReadable, IsSilent, IsWhole, MakesDraft}
 use Rattle.halo_parse.specs.FileLaws.{ContractOrFault}
 use Rattle.halo_parse.specs.FileLines.{is_silent, lines_of, words_of}
@@ -72,7 +72,7 @@ pub contract_or_fault : ContractOrFault
 contract_or_fault tables bytes = elim (lines_choice tables empty_draft 1 (lines_of bytes)) [
   | inr (line, k, fault) ↦ inr (line, k, inl fault)
   | inl (final, makes) ↦ elim (dec_whole final) [
-    | yes whole ↦ inl (final, record { lines = makes; whole = whole })
+    | yes whole ↦ inl (contract_made final, record { draft = final; lines = makes; whole = whole; made = refl })
     | no lacks ↦ inr (length (lines_of bytes) + 1, kind.Missing, inr (record { draft = final; lines = makes; not_whole = lacks; number_is = refl; kind_is = refl }))
   ]
 ]

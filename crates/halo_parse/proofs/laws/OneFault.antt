@@ -1,8 +1,8 @@
 -- A file writes one contract or has one first fault, and not both.
-use Rattle.std.proofs.Common.{◌≡◌, ◌∙◌, ℕ, ◌+◌, false, List, [], ◌∷◌, inl, inr, subst, sym}
+use Rattle.std.proofs.Common.{◌≡◌, ◌∙◌, ℕ, ◌+◌, false, List, [], ◌∷◌, ap, inl, inr, subst, sym}
 use Rattle.halo_table.specs.DecrementTable.{TableFile}
 use Rattle.halo_parse.specs.Checks.{FailsFirst, Passes}
-use Rattle.halo_parse.specs.Draft.{Draft, empty_draft, with_line}
+use Rattle.halo_parse.specs.Draft.{Draft, contract_made, empty_draft, with_line}
 use Rattle.halo_parse.specs.Faults.{FirstFaultOf, HasFault, IsFine, IsSilent, IsWhole, MakesDraft}
 use Rattle.halo_parse.specs.FileLaws.{ContractIsOne, FirstFaultIsOne, NoFaultIsFirst}
 use Rattle.halo_parse.specs.FileLines.{is_silent, lines_of, words_of}
@@ -85,12 +85,14 @@ one_first tables d count (text ∷ texts) line other j k (inr (inr (l, fine, lat
     one_first tables (with_line tables d l) (count + 1) texts line other j k later (subst (λ x. FirstFaultOf tables (with_line tables d x) (count + 1) texts other k) same also)
 
 pub contract_is_one : ContractIsOne
-contract_is_one tables bytes contract other writes also = one_draft tables empty_draft (lines_of bytes) contract other writes.lines also.lines
+contract_is_one tables bytes contract other writes also =
+    let same = one_draft tables empty_draft (lines_of bytes) writes.draft also.draft writes.lines also.lines in
+    writes.made ∙ ap contract_made same ∙ sym also.made
 
 pub no_fault_is_first : NoFaultIsFirst
-no_fault_is_first tables bytes contract line k writes (inl fault) = draft_or_fault tables empty_draft 1 (lines_of bytes) contract line k writes.lines fault
+no_fault_is_first tables bytes contract line k writes (inl fault) = draft_or_fault tables empty_draft 1 (lines_of bytes) writes.draft line k writes.lines fault
 no_fault_is_first tables bytes contract line k writes (inr missing) =
-    missing.not_whole (subst IsWhole (one_draft tables empty_draft (lines_of bytes) contract missing.draft writes.lines missing.lines) writes.whole)
+    missing.not_whole (subst IsWhole (one_draft tables empty_draft (lines_of bytes) writes.draft missing.draft writes.lines missing.lines) writes.whole)
 
 pub first_fault_is_one : FirstFaultIsOne
 first_fault_is_one tables bytes line other j k (inl fault) (inl also) = one_first tables empty_draft 1 (lines_of bytes) line other j k fault also
