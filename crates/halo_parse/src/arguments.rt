@@ -1,5 +1,4 @@
 // Words that stand by themselves: a fraction of interest, and a number within a limit.
-ghost use Rattle.std.specs.Prelude.{◌≤◌, ◌^◌};
 ghost use Rattle.halo_parse.specs.WordReading.{ReadsFraction, ReadsLimited};
 
 use crate::checks::GREATEST_PART;
@@ -8,11 +7,10 @@ use crate::fraction::split_fraction;
 use halo_interest::Interest;
 use halo_text::{NumberFault, number_up_to};
 
-/// The number that a word is, where it is at most `limit`, which is at most 10^18.
+/// The number that a word is, where it is at most `limit`.
 ///
 /// A word that is no number is `Syntax`, and a number above the limit `Magnitude`.
 pub fn read_number(word: &[u8], limit: u64) -> Result<u64, ContractKind>
-    requires { limit ≤ 10 ^ 18 }
     ensures { ReadsLimited word.now limit result }
 {
     match number_up_to(word, limit) {

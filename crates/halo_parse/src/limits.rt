@@ -25,8 +25,7 @@ const MOST_NODES: usize = 64;
 
 /// Whether digits write a number of at most `limit`.
 pub fn is_up_to(digits: &[u8], limit: u64) -> bool
-    requires number { IsNumber digits.now }
-    requires limit { limit ≤ 10 ^ 18 }
+    requires { IsNumber digits.now }
     ensures { IsTrue result ↔ IsUpTo limit digits.now }
 {
     number_up_to(digits, limit).is_ok()

@@ -1,5 +1,5 @@
 // Numbers that are known to be within a limit.
-ghost use Rattle.std.specs.Prelude.{◌≡◌, ◌≤◌, ◌^◌};
+ghost use Rattle.std.specs.Prelude.{◌≡◌};
 ghost use Rattle.halo_text.specs.Number.{IsNumber, number};
 ghost use Rattle.halo_parse.specs.Limits.{IsUpTo};
 
@@ -9,7 +9,6 @@ use halo_text::number_up_to;
 pub fn number_within(digits: &[u8], limit: u64) -> u64
     requires number { IsNumber digits.now }
     requires within { IsUpTo limit digits.now }
-    requires limit { limit ≤ 10 ^ 18 }
     ensures { result ≡ number digits.now }
 {
     match number_up_to(digits, limit) {

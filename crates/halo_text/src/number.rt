@@ -1,5 +1,5 @@
 // Numbers.
-ghost use Rattle.std.specs.Prelude.{◌≤◌};
+ghost use Rattle.std.specs.Prelude.{◌≡◌, ◌+◌, ◌*◌, ◌<◌, ◌≤◌, MatchOption};
 ghost use Rattle.halo_text.specs.Number.{ReadsNumber};
 
 /// Why a text gives no number.
@@ -11,34 +11,36 @@ pub enum NumberFault {
     Above,
 }
 
+// A number with one digit more, where it is at most `limit`.
+fn with_digit(value: u64, digit: u8, limit: u64) -> Option<u64>
+    ensures { MatchOption result
+        (limit < value * 10 + digit)
+        (λ more. (more ≡ value * 10 + digit) × (more ≤ limit)) }
+{
+    let more = value.checked_mul(10)?.checked_add(u64::from(digit))?;
+    if more <= limit { Some(more) } else { None }
+}
+
 /// The whole number that ASCII digits write in base ten, where it is at most `limit`.
 ///
 /// There may be any number of digits, and leading zeros count for nothing. A text that is
 /// no number is told as [`NumberFault::NotNumber`] also where its first digits alone are
-/// above the limit. The limit is at most 10^18, so that ten times it and a digit fit.
-#[tactic(auto, using(crate::proofs::Digits::number_more, crate::proofs::Digits::all_more, crate::proofs::Digits::not_all))]
+/// above the limit.
+#[tactic(auto, using(crate::proofs::Digits::digits))]
 pub fn number_up_to(text: &[u8], limit: u64) -> Result<u64, NumberFault>
-    requires { limit ≤ 1000000000000000000 }
     ensures { ReadsNumber text.now limit result }
 {
     if text.is_empty() {
         return Err(NumberFault::NotNumber);
     }
-    let mut value = 0u64;
-    let mut above = false;
+    let mut value = Some(0);
     for byte in text {
         if !byte.is_ascii_digit() {
             return Err(NumberFault::NotNumber);
         }
-        // Once above the limit the value stays there, so only the digits are looked at.
-        if !above {
-            value = value * 10 + u64::from(*byte - b'0');
-            above = value > limit;
-        }
+        let digit = *byte - b'0';
+        // Past the limit there is no value any more, and only the digits are looked at.
+        value = value.and_then(|value| with_digit(value, digit, limit));
     }
-    if above {
-        Err(NumberFault::Above)
-    } else {
-        Ok(value)
-    }
+    value.ok_or(NumberFault::Above)
 }

@@ -34,3 +34,9 @@ fn numbers(rt: HostRuntime) {
         assert!(rt; number_up_to(text, 150) == answer);
     }
 }
+
+#[test]
+fn largest_limit(rt: HostRuntime) {
+    assert!(rt; number_up_to(b"18446744073709551615", u64::MAX) == Ok(u64::MAX));
+    assert!(rt; number_up_to(b"18446744073709551616", u64::MAX) == Err(NumberFault::Above));
+}
