@@ -1,5 +1,5 @@
 -- The fractions of an interest line that passes all checks are those of an interest.
-use Rattle.std.proofs.Common.{◌≡◌, ◌+◌, ◌<◌, ◌≤◌, ℕ, zero, suc, List, [], ◌∷◌, length, get_or, map, refl, ap, sym, arith}
+use Rattle.std.proofs.Common.{◌≡◌, ◌+◌, ◌<◌, ◌≤◌, ℕ, zero, suc, List, [], ◌∷◌, length, get_or, map, refl, ap, arith}
 use Rattle.std.proofs.lemmas.List.{get_or-map, length-map}
 use Rattle.halo_interest.specs.Rates.{IsFraction, IsInterest, no_interest, rate_at}
 use Rattle.halo_interest.specs.declared.rate.Rate.{Rate}

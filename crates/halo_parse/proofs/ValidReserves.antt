@@ -1,5 +1,5 @@
 -- What a reserve line adds that passes all checks is a valid reserve.
-use Rattle.std.proofs.Common.{◌≡◌, ◌+◌, ◌<◌, ◌≤◌, ◌^◌, ◌∙◌, ℕ, true, List, [], length, get_or, ap, subst, sym, arith}
+use Rattle.std.proofs.Common.{◌+◌, ◌<◌, ◌≤◌, ◌^◌, ◌∙◌, ℕ, List, [], ap, subst, arith}
 use Rattle.std.proofs.lemmas.List.{get_or-map, length-map}
 use Rattle.std.proofs.lemmas.Option.{get_or_from_slice_get, slice_get_within}
 use Rattle.halo_contract.specs.PlainContract.{life_names}
@@ -30,9 +30,9 @@ valid_reserve tables d time names kept passes =
       time_in = (passes kind.Magnitude).0;
       declared = subst (λ n. mask_of_names all names < 2 ^ n) count (mask_of_names-lt all names);
       alive = λ i declared at set.
-        let within = slice_get_within d.lives i declared at in
-        let here = get_or_from_slice_get d.lives i declared declared at in
-        let named = get_or-map (λ (line : LifeLine). line.name) d.lives i declared [] within ∙ ap (λ (line : LifeLine). line.name) here in
-        let among = rw named at (among_of_bit all names i (omega (arith, count)) set) in
-        later_row tables (number time) declared (rw here at (kept.rows i declared within)) (rw here at (passes kind.NotAlive i declared within) among);
+          let within = slice_get_within d.lives i declared at in
+          let here = get_or_from_slice_get d.lives i declared declared at in
+          let named = get_or-map (λ (line : LifeLine). line.name) d.lives i declared [] within ∙ ap (λ (line : LifeLine). line.name) here in
+          let among = rw named at (among_of_bit all names i (omega (arith, count)) set) in
+          later_row tables (number time) declared (rw here at (kept.rows i declared within)) (rw here at (passes kind.NotAlive i declared within) among);
     }

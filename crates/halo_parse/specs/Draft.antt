@@ -1,5 +1,5 @@
 -- What the lines of a contract file have said, and what a line adds to those before it.
-use Rattle.std.specs.Prelude.{ℕ, ◌+◌, ◌*◌, List, [], ◌∷◌, ◌++◌, Bool, Option, None, Some, bytes_eq, map, unwrap_or}
+use Rattle.std.specs.Prelude.{ℕ, List, [], ◌∷◌, ◌++◌, Bool, Option, None, Some, bytes_eq, map, unwrap_or}
 use Rattle.std.specs.List.{list_any, position_or_len}
 use Rattle.halo_sums.specs.SetMasks.{mask_of}
 use Rattle.halo_text.specs.Number.{number}

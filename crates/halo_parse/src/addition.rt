@@ -19,7 +19,6 @@ ghost use Rattle.halo_parse.specs.Usable.{IsUsableBody};
 
 use crate::Memory;
 use crate::checks::GREATEST_PART;
-use halo_contract::{LifeLine, ReserveLine, Ties};
 use crate::draft::Draft;
 use crate::fault::ContractKind;
 use crate::line::{LaterRate, Line};
@@ -28,6 +27,7 @@ use crate::names::{age_of, place_of_table};
 use crate::numbers::{number_within, years_within};
 use crate::pay_from::pay_from;
 use crate::status_from::status_from;
+use halo_contract::{LifeLine, ReserveLine, Ties};
 use halo_interest::Interest;
 use halo_status::{Kind, Pay, Vary};
 use halo_symbol::Body;

@@ -7,11 +7,11 @@ ghost use Rattle.halo_parse.specs.LineView.{draft_of};
 ghost use Rattle.halo_parse.specs.Reading.{ReadsContract};
 
 use crate::add_text::add_text;
-use halo_contract::{Contract, Ties};
 use crate::draft::Draft;
 use crate::error::LineError;
 use crate::fault::{ContractError, ContractFault, ContractKind};
 use crate::file_lines::Lines;
+use halo_contract::{Contract, Ties};
 use halo_table::Tables;
 use std::alloc::Global;
 

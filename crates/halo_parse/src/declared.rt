@@ -8,8 +8,8 @@ ghost use Rattle.halo_contract.specs.PlainContract.{life_names};
 ghost use Rattle.halo_parse.specs.Parts.{AtEachNode};
 
 use crate::Memory;
-use halo_contract::LifeLine;
 use crate::parts::{PartTest, body_passes};
+use halo_contract::LifeLine;
 use halo_symbol::{Body, Members, Node};
 use std::alloc::Global;
 use std::collections::BTreeSet;

@@ -24,7 +24,9 @@ pub fn premiums_are_valid()
     ensures { PremiumsAreValid }
 {}
 
-/// A contract that a file writes has valid pays, and a valid premium that exists at the start.
+/// A contract that a file writes is valid: its interest, its lives, each of which has a row at its
+/// age, its pays, its premium, which exists at the start, and its reserves, each for lives that can
+/// be alive then.
 pub fn contracts_are_valid()
     ensures { ContractsAreValid }
 {}

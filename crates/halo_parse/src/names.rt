@@ -12,12 +12,12 @@ ghost use Rattle.halo_parse.specs.LineView.{draft_of, plain_line};
 ghost use Rattle.halo_parse.specs.ProperLine.{IsProperLine};
 
 use crate::Memory;
-use halo_contract::LifeLine;
 use crate::declared::{are_different, names_declared, place_of_life};
 use crate::draft::Draft;
 use crate::form::Form;
 use crate::forms::came_before;
 use crate::line::Line;
+use halo_contract::LifeLine;
 use halo_symbol::Names;
 use halo_table::Tables;
 use halo_text::number_up_to;

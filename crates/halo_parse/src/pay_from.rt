@@ -12,10 +12,10 @@ ghost use Rattle.halo_parse.specs.Limits.{IsSymbolWithin, IsUpTo};
 ghost use Rattle.halo_parse.specs.Usable.{IsUsableSymbol};
 
 use crate::Memory;
-use halo_contract::LifeLine;
 use crate::masks::mask_of_causes;
 use crate::numbers::{number_within, rank_within, years_within};
 use crate::status_from::{members_from, status_from};
+use halo_contract::LifeLine;
 use halo_status::{Mark, Pay, Status, Vary};
 use halo_symbol as written;
 use halo_symbol::{Body, Symbol};

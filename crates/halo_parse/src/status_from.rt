@@ -8,9 +8,9 @@ ghost use Rattle.halo_contract.specs.PlainContract.{life_names};
 ghost use Rattle.halo_parse.specs.Usable.{AreUsable, IsUsable, IsUsableBody};
 
 use crate::Memory;
-use halo_contract::LifeLine;
 use crate::declared::place_of_life;
 use crate::numbers::{rank_within, years_within};
+use halo_contract::LifeLine;
 use halo_status::{Members, Status};
 use halo_symbol as written;
 use halo_symbol::{Body, Node};

@@ -14,7 +14,6 @@ ghost use Rattle.halo_parse.specs.ProperLine.{IsProperLine};
 ghost use Rattle.halo_parse.specs.Reading.{PassesBefore};
 
 use crate::addition::Addition;
-use halo_contract::LifeLine;
 use crate::draft::Draft;
 use crate::fault::ContractKind;
 use crate::line::Line;
@@ -22,6 +21,7 @@ use crate::masks::is_among;
 use crate::numbers::years_within;
 use crate::ranks::{has_ranks, is_rank};
 use crate::sharing::are_apart;
+use halo_contract::LifeLine;
 use halo_status::{Kind, Members, Pay, Status, View};
 use halo_table::{Life, Tables};
 

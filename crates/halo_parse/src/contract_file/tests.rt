@@ -1,4 +1,5 @@
-use crate::{ContractError, ContractFault, ContractKind, ReserveLine, Ties, read_contract};
+use crate::{ContractError, ContractFault, ContractKind, read_contract};
+use halo_contract::{ReserveLine, Ties};
 use halo_table::{LONGEST_FILE, Tables};
 use std::rt::HostRuntime;
 
