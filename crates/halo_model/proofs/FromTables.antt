@@ -33,7 +33,8 @@ rows-fall causes (row ∷ []) h (suc i) within = absurd (omega arith)
 rows-fall causes (row ∷ next ∷ rest) h zero within = record { by_cause = h.0.by_cause; next = omega (arith, h.1) }
 rows-fall causes (row ∷ next ∷ rest) h (suc i) within = let f = rows-fall causes (next ∷ rest) h.2 i (omega arith) in record { by_cause = f.by_cause; next = f.next }
 
-some-rows : (causes : ℕ) (rows : List DecrementRow) → AreSoundRows causes rows → 0 < length rows
+-- a sound table has a row
+pub some-rows : (causes : ℕ) (rows : List DecrementRow) → AreSoundRows causes rows → 0 < length rows
 some-rows causes [] h = absurd h
 some-rows causes (row ∷ rest) h = omega arith
 

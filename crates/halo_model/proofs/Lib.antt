@@ -66,3 +66,4 @@ pub mod SecondMoment
 pub mod WorkedMoments
 pub mod RunParts
 pub mod Unnamed
+pub mod Positive

@@ -1,17 +1,14 @@
 -- The longest of the years of a status: what its parts need, and what they add up to.
-use Rattle.std.proofs.Common.{◌≡◌, ◌⊎◌, ℕ, zero, suc, ◌+◌, ◌<◌, ◌≤◌, List, [], ◌∷◌, true, length, drop, max, ap, sym, arith, inl, inr, Some}
+use Rattle.std.proofs.Common.{◌≡◌, ◌⊎◌, ℕ, ◌+◌, ◌<◌, ◌≤◌, List, length, drop, max, ap, arith, inl, inr, Some}
 use Rattle.std.specs.Prelude.{slice_get}
 use Rattle.std.proofs.lemmas.List.{get_or-map}
-use Rattle.std.proofs.lemmas.Option.{get_or_from_slice_get}
 use Rattle.std.specs.declared.boxed.Box.{Box}
 use Rattle.std.specs.declared.alloc.Global.{Global}
 use Rattle.halo_status.specs.declared.status.Status.{Status, Life as LifeStatus, Term, After}
-use Rattle.halo_status.specs.Tree.{Tree, joint, last, at_least, exactly, more}
+use Rattle.halo_status.specs.Tree.{Tree, joint, last, at_least, exactly}
 use Rattle.halo_status.specs.StatusTree.{tree_of, trees_in}
-use Rattle.halo_status.specs.Naming.{any_names_life, any_names_term, names_life, names_term}
-use Rattle.halo_status.specs.Nodes.{nodes, nodes_in}
+use Rattle.halo_status.specs.Naming.{names_life, names_term}
 use Rattle.halo_status.proofs.Lists.{HasMembers}
-use Rattle.halo_status.proofs.Walk.{left_at}
 use Rattle.halo_status.proofs.Shapes.{tree_of-AtLeast, tree_of-Exactly, tree_of-Joint, tree_of-Last, tree_of-After, tree_of-Life, tree_of-Term}
 use Rattle.halo_table.specs.DecrementTable.{TableFile, HasRow}
 use Rattle.halo_table.specs.declared.lives.Life.{Life}

@@ -1,7 +1,9 @@
 -- The basis of a contract: its yearly interest, its lives in their tables, and its rule for ties.
-use Rattle.std.specs.Prelude.{List, map}
+use Rattle.std.specs.Prelude.{List, Option, map}
+use Rattle.std.specs.Option.{option_map}
 use Rattle.halo_interest.specs.declared.rate.Rate.{Rate}
 use Rattle.halo_interest.specs.Rates.{rate_of}
+use Rattle.halo_status.specs.Tree.{Tree}
 use Rattle.halo_table.specs.DecrementTable.{TableFile}
 use Rattle.halo_table.specs.declared.lives.Life.{Life}
 use Rattle.halo_contract.specs.PlainContract.{PlainContract}
@@ -24,3 +26,7 @@ basis_of file rates lives ties = record {
 abbrev pub contract_basis : TableFile → PlainContract → Basis
 contract_basis file contract =
     basis_of file contract.interest (map (λ declared. declared.life) contract.lives) contract.ties
+
+-- the status while which the premiums of a contract are paid, if a premium is asked for
+abbrev pub premium_status : PlainContract → Option Tree
+premium_status contract = option_map (λ pay. pay.body) contract.premium

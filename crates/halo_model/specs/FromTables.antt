@@ -1,6 +1,6 @@
 -- The lives of a contract, as the tables of a file tell them.
 use Rattle.std.specs.Prelude.{ℕ, ◌+◌, ◌-◌, List, length, map}
-use Rattle.halo_table.specs.DecrementTable.{TableFile, first_age_of, last_age_of, leavers_at, survivors_at}
+use Rattle.halo_table.specs.DecrementTable.{TableFile, last_age_of, leavers_at, survivors_at}
 use Rattle.halo_table.specs.declared.lives.Life.{Life}
 use Rattle.halo_model.specs.Life.{PlainLife}
 

@@ -48,3 +48,4 @@ pub mod SecondMoment
 pub mod WorkedMoments
 pub mod RunPart
 pub mod Unnamed
+pub mod PositiveLaws

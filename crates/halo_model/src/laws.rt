@@ -1,28 +1,38 @@
 // Laws of the definitions: functions that do nothing, whose contracts are the laws.
 ghost use Rattle.halo_model.specs.ByTreeLaws.{ExistenceByTree, ExpectedByTree};
-ghost use Rattle.halo_model.specs.Backward.{AnnuityBySets, AnnuityIsBounded, DueIsWorthOne, NothingAfterHorizon};
+ghost use Rattle.halo_model.specs.Backward.{AnnuityBySets, AnnuityIsBounded, DueIsWorthOne};
+ghost use Rattle.halo_model.specs.Backward.{NothingAfterHorizon};
 ghost use Rattle.halo_model.specs.ByYears.{InsuranceByYears, InsuranceFromAnnuity, TiesDoNotMatter};
 ghost use Rattle.halo_model.specs.ChanceLaws.{ChanceOnEnd, ChanceOnLeaving};
 ghost use Rattle.halo_model.specs.ChanceLaws.{NoChanceOnEndOutside, NoChanceOnLeavingOutside};
 ghost use Rattle.halo_model.specs.ChanceLaws.{NoChanceOnOtherEnd, NoChanceOnOtherLeaving};
 ghost use Rattle.halo_model.specs.Columns.{ColumnsAgreeOnOneLife};
 ghost use Rattle.halo_model.specs.Enclosed.{ValuesScale};
-ghost use Rattle.halo_model.specs.EnclosureLaws.{BenefitsFit, DueFits, NoBenefits, OneBenefitMore, PremiumOfBenefits};
+ghost use Rattle.halo_model.specs.EnclosureLaws.{BenefitsFit, DueFits, NoBenefits, OneBenefitMore};
+ghost use Rattle.halo_model.specs.EnclosureLaws.{PremiumOfBenefits};
 ghost use Rattle.halo_model.specs.EnclosureLaws.{ReserveWithPremium, ReserveWithoutPremium};
 ghost use Rattle.halo_model.specs.Horizon.{HorizonIsLeast};
-ghost use Rattle.halo_model.specs.Laws.{ExpectedByCoefficients, ExpectedBySets, LivesOfTablesKeepTheRule, WeightsAddUp};
+ghost use Rattle.halo_model.specs.Laws.{ExpectedByCoefficients, ExpectedBySets};
+ghost use Rattle.halo_model.specs.Laws.{LivesOfTablesKeepTheRule, WeightsAddUp};
 ghost use Rattle.halo_model.specs.Line.{PayHasLine, PremiumHasLine, ReserveHasLine, TotalHasLine};
 ghost use Rattle.halo_model.specs.MarkLaws.{FirstMarksAddUp, RanksAddUp};
 ghost use Rattle.halo_model.specs.OneLife.{DueOnOneLife, InsuranceOnOneLife};
 ghost use Rattle.halo_model.specs.OrderLaws.{FirstLeavingEvenly, LeavingsOfASet, MeanOverOrders};
 ghost use Rattle.halo_model.specs.OrderLaws.{OrdersCounted, SomeLeavesInEachOrder};
-ghost use Rattle.halo_model.specs.PartsByTree.{ChanceOnEndByTree, ChanceOnLeavingByTree, ExistingByTree, EndLossIsNotNegative, LossIsNotNegative, PayLossIsNotNegative};
+ghost use Rattle.halo_model.specs.PartsByTree.{ChanceOnEndByTree, ChanceOnLeavingByTree};
+ghost use Rattle.halo_model.specs.PartsByTree.{ExistingByTree, EndLossIsNotNegative};
+ghost use Rattle.halo_model.specs.PartsByTree.{LossIsNotNegative, PayLossIsNotNegative};
 ghost use Rattle.halo_model.specs.OneEvent.{OneEventAYear};
 ghost use Rattle.halo_model.specs.OnePayment.{EndIsBounded, EndsAreBounded, InsuranceIsBounded};
-ghost use Rattle.halo_model.specs.OnePayment.{LeavingIsBounded, LeavingsAreBounded, OnePayment, OrdersGiveOwnRanks};
-ghost use Rattle.halo_model.specs.PartLaws.{DueByParts, ImmediateByParts, InsuranceByParts, ReversionAddsUp};
+ghost use Rattle.halo_model.specs.OnePayment.{LeavingIsBounded, LeavingsAreBounded, OnePayment};
+ghost use Rattle.halo_model.specs.OnePayment.{OrdersGiveOwnRanks};
+ghost use Rattle.halo_model.specs.PartLaws.{DueByParts, ImmediateByParts, InsuranceByParts};
+ghost use Rattle.halo_model.specs.PartLaws.{ReversionAddsUp};
+ghost use Rattle.halo_model.specs.PositiveLaws.{ContractsHavePositiveDenominators};
+ghost use Rattle.halo_model.specs.PositiveLaws.{DenominatorIsPositive, PremiumIsWorthOne};
 ghost use Rattle.halo_model.specs.ReserveLaw.{ReserveIsConditional};
-ghost use Rattle.halo_model.specs.SecondMoment.{DeferralsTell, SecondMomentByDeferrals, SecondMomentByYears};
+ghost use Rattle.halo_model.specs.SecondMoment.{DeferralsTell, SecondMomentByDeferrals};
+ghost use Rattle.halo_model.specs.SecondMoment.{SecondMomentByYears};
 ghost use Rattle.halo_model.specs.SetLaws.{EndBySets, InsuranceBySets, LeavingBySets};
 ghost use Rattle.halo_model.specs.RunPart.{RunPartsAddUp};
 ghost use Rattle.halo_model.specs.Unnamed.{UnnamedDoNotCount};
@@ -53,17 +63,18 @@ pub fn chance_goes_along_the_tree()
     ensures expected { ExpectedByTree }
 {}
 
-/// The parts of a value of a pay whose body is read once go along the tree of the status on which it
-/// waits: that it exists at a time; that a payment falls on a life's leaving, as what the status loses
-/// where the life is surely there and surely not; and that one falls on the end of a term.
+/// The parts of a value of a pay whose body is read once go along the tree of the status on which
+/// it waits: that it exists at a time; that a payment falls on a life's leaving, as what the status
+/// loses where the life is surely there and surely not; and that one falls on the end of a term.
 pub fn parts_go_along_the_tree()
     ensures existing { ExistingByTree }
     ensures leaving { ChanceOnLeavingByTree }
     ensures end { ChanceOnEndByTree }
 {}
 
-/// A lasting status is not less likely where a life is surely there than where it is surely not; nor is
-/// the status on which an insurance waits, for a life of the marked member if there is a mark.
+/// A lasting status is not less likely where a life is surely there than where it is surely not;
+/// nor is the status on which an insurance waits, for a life of the marked member if there is a
+/// mark.
 pub fn losses_are_not_negative()
     ensures lasting { LossIsNotNegative }
     ensures pays { PayLossIsNotNegative }
@@ -97,15 +108,16 @@ pub fn values_by_parts()
 {}
 
 /// An annuity is worth what the sets of lives add, each over the years backward: what is paid at a
-/// time, and what is paid later, discounted for a year and times the chance that the set survives it.
-/// After the last time of its form a pay has no coefficient on lives that are alive.
+/// time, and what is paid later, discounted for a year and times the chance that the set survives
+/// it. After the last time of its form a pay has no coefficient on lives that are alive.
 pub fn annuity_by_sets()
     ensures value { AnnuityBySets }
     ensures no_more { NothingAfterHorizon }
 {}
 
-/// An annuity of 1 is worth at most its greatest factor at each time of its form, and an annuity-due of
-/// 1, level and without deferral, is worth at least 1 where its body exists at the start.
+/// An annuity of 1 is worth at most its greatest factor at each time of its form, and an
+/// annuity-due of 1, level and without deferral, is worth at least 1 where its body exists at the
+/// start.
 pub fn annuity_bounds()
     ensures most { AnnuityIsBounded }
     ensures least { DueIsWorthOne }
@@ -128,8 +140,8 @@ pub fn due_on_one_life()
     ensures { DueOnOneLife }
 {}
 
-/// The insurance on one life is what the books write: the sum of the discounted payments times those
-/// who leave in their years, over the survivors at the start.
+/// The insurance on one life is what the books write: the sum of the discounted payments times
+/// those who leave in their years, over the survivors at the start.
 pub fn insurance_on_one_life()
     ensures { InsuranceOnOneLife }
 {}
@@ -152,6 +164,16 @@ pub fn marks_add_up()
 /// the value at that time with these lives alive.
 pub fn reserve_is_conditional()
     ensures { ReserveIsConditional }
+{}
+
+/// The denominators of values are at least 1, so that each value is a fraction: where each life
+/// that is alive has survivors, and each year an interest. A premium of 1 is worth at least 1 at
+/// the start, where its status exists. So it is for every contract that can be valued: at the
+/// start, for its premium and for each of its reserves.
+pub fn denominators_are_positive()
+    ensures values { DenominatorIsPositive }
+    ensures premium { PremiumIsWorthOne }
+    ensures contracts { ContractsHavePositiveDenominators }
 {}
 
 /// The horizon of a status is the least number of years that is at least 1, as many as each life
@@ -210,8 +232,8 @@ pub fn mean_over_orders()
 
 /// The first of a set of lives to leave in a year. What the chances of the leavings ask for is that
 /// the first to leave leaves by a cause that is asked for. Over all orders, each life of the set is
-/// the first of it with equal chance: it leaves, or it stays and the others are asked. And where all
-/// causes are asked for, it is in each order the chance that not all of the set stay.
+/// the first of it with equal chance: it leaves, or it stays and the others are asked. And where
+/// all causes are asked for, it is in each order the chance that not all of the set stay.
 pub fn first_to_leave()
     ensures leavings { LeavingsOfASet }
     ensures evenly { FirstLeavingEvenly }
