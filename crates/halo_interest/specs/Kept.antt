@@ -1,4 +1,5 @@
--- How an interest keeps its fractions: first in eight places, the rest of which stand at no interest.
+-- How an interest keeps its fractions: first in eight places, the rest of which stand at no
+-- interest.
 use Rattle.std.specs.Prelude.{◌≡◌, ℕ, ◌-◌, ◌≤◌, List, length, take, drop, replicate}
 use Rattle.halo_interest.specs.declared.rate.Rate.{Rate}
 use Rattle.halo_interest.specs.Rates.{IsInterest, no_interest}

@@ -1,4 +1,5 @@
--- What 1 is worth at a start if it is due some years later: the product of the years' discounts.
+-- What 1 is worth at a start if it is due some years later: the product of the years' discount
+-- factors, v^t where all are v.
 use Rattle.std.specs.Prelude.{◌≡◌, ℕ, ◌-◌, ◌*◌, ◌≤◌, List, pos, get_or}
 use Rattle.halo_interest.specs.declared.powers.TheConstants.{LAST_TIME}
 use Rattle.halo_sums.specs.Sums.{numbers_from, product_over}
@@ -13,9 +14,11 @@ power_at powers t = get_or powers t (record { lo = pos 0; hi = pos 0 })
 pub record AreParts (powers : List Ends) : Type 0 where
   pub each : (t : ℕ) → t ≤ LAST_TIME → IsWithin (power_at powers t) (pos 0) (pos fine)
 
--- i encloses the product of the discounts n / d of the t years from year s, at most 3t wide, from 0 to 1
+-- i encloses the product of the discount factors n / d of the t years from year s, at most 3t
+-- wide, from 0 to 1
 abbrev pub IsPower : (n d : ℕ → ℕ) → ℕ → ℕ → Ends → Type 0
-IsPower n d s t i = EnclosesChance (product_over (numbers_from s t) n) (product_over (numbers_from s t) d) (3 * t) i
+IsPower n d s t i = EnclosesChance
+    (product_over (numbers_from s t) n) (product_over (numbers_from s t) d) (3 * t) i
 
 -- the list has each power from year s up to the last time, and that of no years is exactly 1
 pub record ArePowers (n d : ℕ → ℕ) (s : ℕ) (powers : List Ends) : Type 0 where

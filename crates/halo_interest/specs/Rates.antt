@@ -20,16 +20,19 @@ no_interest = record { year = 0; p = 0; q = 1 }
 abbrev pub rate_at : List Rate → ℕ → Rate
 rate_at rates i = get_or rates i no_interest
 
--- the fractions are those of an interest: 1 to 8 of them, the first from year 0, the years going up to 199 at most
+-- the fractions are those of an interest: 1 to 8 of them, the first from year 0, the years going
+-- up to 199 at most
 pub record IsInterest (rates : List Rate) : Type 0 where
   pub some : 1 ≤ length rates
   pub room : length rates ≤ 8
   pub start : (rate_at rates 0).year ≡ 0
   pub fractions : (i : ℕ) → i < length rates → IsFraction (rate_at rates i).p (rate_at rates i).q
   pub years : (i : ℕ) → i < length rates → (rate_at rates i).year ≤ 199
-  pub increasing : (i : ℕ) → i + 1 < length rates → (rate_at rates i).year < (rate_at rates (i + 1)).year
+  pub increasing : (i : ℕ) → i + 1 < length rates
+      → (rate_at rates i).year < (rate_at rates (i + 1)).year
 
--- p / q from a year on may follow the fractions: the year is after the last one's, and there is room
+-- p / q from a year on may follow the fractions: the year is after the last one's, and there is
+-- room
 pub record CanFollow (rates : List Rate) (year p q : ℕ) : Type 0 where
   pub fraction : IsFraction p q
   pub year_in : year ≤ 199
@@ -46,7 +49,8 @@ abbrev pub rate_of : List Rate → ℕ → Rate
 rate_of [] k = no_interest
 rate_of (first ∷ rest) k = latest_of first rest k
 
--- the discount of year k is q / (p + q), what 1 at its end is worth at its beginning
+-- The discount factor v of year k is what 1 at its end is worth at its beginning, where i = p / q.
+-- v = 1 / (1 + i) = q / (p + q); the books' discount is d = 1 - v
 abbrev pub discount_numerator : List Rate → ℕ → ℕ
 discount_numerator rates k = (rate_of rates k).q
 

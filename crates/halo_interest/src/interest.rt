@@ -34,7 +34,10 @@ impl Model for Interest {
 
     ghost invariant = { λ interest. IsKept interest.rates interest.count };
 
-    ghost inverse = { λ rates. record { rates = rates ++ replicate (8 - length rates) no_interest; count = length rates } };
+    ghost inverse = { λ rates. record {
+      rates = rates ++ replicate (8 - length rates) no_interest;
+      count = length rates;
+    } };
 
     ghost use Rattle.halo_interest.specs.Back.{interest_back};
 
@@ -60,10 +63,12 @@ impl Interest {
     /// Adds the fraction p / q, which holds from `year` on.
     ///
     /// It is refused exactly where `q` is 0, `p` or `q` is above 10^9, the year is above 199 or not
-    /// above that of the last fraction, or there are 8 fractions. The interest then stays as it was.
+    /// above that of the last fraction, or there are 8 fractions. The interest then stays as it
+    /// was.
     pub fn add_from(&mut self, year: u16, p: u64, q: u64) -> Option<()>
         ensures valid { IsSome result ↔ CanFollow self.old year p q }
-        ensures added { OnSome result (self.new ≡ self.old ++ record { year = year; p = p; q = q } ∷ []) }
+        ensures added { OnSome result
+            (self.new ≡ self.old ++ record { year = year; p = p; q = q } ∷ []) }
         ensures unchanged { IfNone result (self.new ≡ self.old) }
     {
         if !self.can_follow(year, p, q) {
@@ -157,19 +162,21 @@ impl Interest {
         self.rate_in_force(0).q
     }
 
-    /// The discount of year 0, at most 1 fine unit wide.
+    /// The discount factor of year 0, at most 1 fine unit wide.
     pub fn discount(&self) -> Ival
-        ensures encloses { Encloses result (pos (discount_numerator self.now 0)) (discount_denominator self.now 0) }
+        ensures encloses { Encloses result
+            (pos (discount_numerator self.now 0)) (discount_denominator self.now 0) }
         ensures narrow { HasWidth result 1 }
         ensures within { IsWithin result (pos 0) (pos fine) }
     {
         self.year(0)
     }
 
-    /// The discount of year `k`, at most 1 fine unit wide.
+    /// The discount factor of year `k`, at most 1 fine unit wide.
     pub fn year(&self, k: u16) -> Ival
         requires { k < LAST_TIME }
-        ensures encloses { Encloses result (pos (discount_numerator self.now k)) (discount_denominator self.now k) }
+        ensures encloses { Encloses result
+            (pos (discount_numerator self.now k)) (discount_denominator self.now k) }
         ensures narrow { HasWidth result 1 }
         ensures within { IsWithin result (pos 0) (pos fine) }
         ensures interest { IsInterest self.now }
@@ -183,7 +190,8 @@ impl Interest {
     /// The counter is raised by at most 200.
     pub fn powers_from<L: Ledger>(&self, start: u16, steps: &mut Steps<L>) -> Powers
         requires { start ≤ LAST_TIME }
-        ensures powers { ArePowers (discount_numerator self.now) (discount_denominator self.now) start result }
+        ensures powers { ArePowers
+            (discount_numerator self.now) (discount_denominator self.now) start result }
         ensures rates { (k : ℕ) → IsFraction (rate_of self.now k).p (rate_of self.now k).q }
         ensures cost { steps.new ≤ steps.old + 200 }
     {
@@ -202,7 +210,8 @@ impl Interest {
     ///
     /// The counter is raised by at most 200.
     pub fn powers<L: Ledger>(&self, steps: &mut Steps<L>) -> Powers
-        ensures powers { ArePowers (discount_numerator self.now) (discount_denominator self.now) 0 result }
+        ensures powers { ArePowers
+            (discount_numerator self.now) (discount_denominator self.now) 0 result }
         ensures rates { (k : ℕ) → IsFraction (rate_of self.now k).p (rate_of self.now k).q }
         ensures cost { steps.new ≤ steps.old + 200 }
     {

@@ -35,7 +35,8 @@ impl Powers {
     /// The value at the start of 1 that is due `t` years later, from 0 to 1.
     ///
     /// Of powers from a start, for `t` up to 200 less the start, it encloses the product of the
-    /// discounts of those t years, and is at most 3t fine units wide; with no years it is exactly 1.
+    /// discount factors of those t years, and is at most 3t fine units wide; with no years it is
+    /// exactly 1.
     pub fn at(&self, t: u16) -> Ival
         requires { t ≤ LAST_TIME }
         ensures value { result ≡ power_at self.now t }

@@ -73,7 +73,8 @@ fn counted_powers<L: Ledger>(rt: &impl Abort, blank: Blank) -> Result<(), Fail>
     assert_exact(rt, powers.at(0), 1_000_000_000_000_000_000);
     assert_exact(rt, powers.at(3), 125_000_000_000_000_000);
 
-    // A half for each of the years 0 and 1, then no discount, and four fifths in the last year.
+    // A half for each of the years 0 and 1, then 1 without interest, and four fifths in the last
+    // year.
     let mut varying = interest;
     assert_eq!(rt; varying.add_from(2, 0, 1), Some(()));
     assert_eq!(rt; varying.add_from(199, 1, 4), Some(()));
