@@ -1,10 +1,12 @@
--- When a status exists: the rules of joint life, last survivor and symmetric statuses, and of reversion.
+-- When a status exists: the rules of joint life, last survivor and symmetric statuses, and of
+-- reversion.
 use Rattle.std.specs.Prelude.{IsTrue, ℕ, suc, Bool, true, false, not, ◌&&◌, nat_eq, nat_le, List, [], ◌∷◌}
 use Rattle.std.specs.List.{list_all, list_any}
 use Rattle.halo_sums.specs.Sums.{count_true}
 use Rattle.halo_status.specs.Tree.{Tree, Trees, life, term, joint, last, at_least, exactly, after, none, more}
 
--- whether a status exists where the lives of the set `alive` are there and the terms of the set `on` are on
+-- whether a status exists where the lives of the set `alive` are there and the terms of the set
+-- `on` are on
 abbrev mutual
   pub exists : (ℕ → Bool) → (ℕ → Bool) → Tree → Bool
   exists alive on (life i) = alive i

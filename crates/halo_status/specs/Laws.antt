@@ -14,10 +14,11 @@ LastingFallsOnce = (alive still_alive on still_on : ℕ → Bool) (s : Tree) →
 
 -- a lasting status that does not exist at a time does not exist later, when no more lives are there
 abbrev pub LastingStaysFallen : Type 0
-LastingStaysFallen = (alive still_alive : ℕ → Bool) (view : View) (t later : ℕ) (s : Tree) → IsLasting s
-    → IsSubset still_alive alive → t ≤ later
+LastingStaysFallen = (alive still_alive : ℕ → Bool) (view : View) (t later : ℕ) (s : Tree)
+    → IsLasting s → IsSubset still_alive alive → t ≤ later
     → exists alive (is_on view t) s ≡ false → exists still_alive (is_on view later) s ≡ false
 
 -- a status whose ranks are at least 1 does not exist with no life there and no term on
 abbrev pub NobodyThere : Type 0
-NobodyThere = (s : Tree) → HasShortLists s → HasPositiveRanks s → exists empty_set empty_set s ≡ false
+NobodyThere = (s : Tree) → HasShortLists s → HasPositiveRanks s
+    → exists empty_set empty_set s ≡ false

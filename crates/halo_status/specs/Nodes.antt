@@ -33,13 +33,15 @@ abbrev mutual
   AtEachNodeIn P none = ⊤
   AtEachNodeIn P (more s ms) = AtEachNode P s × AtEachNodeIn P ms
 
--- a node by which a status can never come back: neither an exact number of members nor one status after another
+-- a node by which a status can never come back: neither an exact number of members nor one status
+-- after another
 abbrev pub NeverReturns : Tree → Type 0
 NeverReturns (exactly r ms) = ⊥
 NeverReturns (after s t) = ⊥
 NeverReturns _ = ⊤
 
--- a lasting status: once it has failed, it has failed for good, since lives only die and terms only end
+-- a lasting status: once it has failed, it has failed for good, since lives only die and terms only
+-- end
 abbrev pub IsLasting : Tree → Type 0
 IsLasting s = AtEachNode NeverReturns s
 

@@ -1,4 +1,5 @@
--- Statuses as plain trees: what a contract's symbol writes in its brackets, without memory or numbers of fixed width.
+-- Statuses as plain trees: what a contract's symbol writes in its brackets, without memory or
+-- numbers of fixed width.
 use Rattle.std.specs.Prelude.{ℕ, zero, suc, ◌+◌, Option, Some, None}
 
 -- a status of the lives and terms of a contract
@@ -8,15 +9,15 @@ mutual
     life : ℕ → Tree
     -- so many years from the start of the contract
     term : ℕ → Tree
-    -- all of its members, a joint-life status
+    -- all of its members, a joint-life status (x:y)
     joint : Trees → Tree
-    -- at least one of its members, a last-survivor status
+    -- at least one of its members, a last-survivor status, the bar over x:y
     last : Trees → Tree
-    -- at least so many of its members, the r-survivor status r / (x y z)
+    -- at least r of its members, the r-survivor status r/(x:y:z), the books' k-survivor status
     at_least : ℕ → Trees → Tree
-    -- exactly so many of its members, the deferred survivor status [r] / (x y z)
+    -- exactly r of its members, the deferred r-survivor status [r]/(x:y:z)
     exactly : ℕ → Trees → Tree
-    -- the second after the first has failed, as a reversionary annuity is paid
+    -- the second after the first has failed, a reversion u|w, as a reversionary annuity is paid
     after : Tree → Tree → Tree
 
   -- the members of a status, in their order

@@ -35,9 +35,11 @@ pub record SharesNothing (s t : Tree) : Type 0 where
 
 -- no two members at different places name one life or one term
 abbrev pub AreApart : Trees → Type 0
-AreApart ms = (p q : ℕ) (s t : Tree) → p ≢ q → member_at ms p ≡ Some s → member_at ms q ≡ Some t → SharesNothing s t
+AreApart ms = (p q : ℕ) (s t : Tree)
+    → p ≢ q → member_at ms p ≡ Some s → member_at ms q ≡ Some t → SharesNothing s t
 
--- what a mark on a member of a list needs: the member, its rank, and members that share nothing
+-- what a mark on a member of a list, as a contingent insurance has it, needs: the member, its rank,
+-- and members that share nothing
 pub record IsValidMark (mark : Mark) (members : Trees) : Type 0 where
   pub member : mark.member < member_count members
   pub rank : IsRank mark.rank (member_count members)
@@ -53,7 +55,8 @@ abbrev pub HasValidVary : Vary → Type 0
 HasValidVary (Decreasing n) = IsLength n
 HasValidVary _ = ⊤
 
--- a pay that a contract may have: each number within its limit, a body and a mark that the kind allows, and causes only of an insurance and then at least one
+-- a pay that a contract may have: each number within its limit, a body and a mark that the kind
+-- allows, and causes only of an insurance and then at least one
 pub record IsValidPay (pay : PlainPay) : Type 0 where
   pub amount_from : 1 ≤ pay.amount
   pub amount_in : pay.amount ≤ 10 ^ 10

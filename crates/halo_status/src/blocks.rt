@@ -1,7 +1,7 @@
 // Existence on 64 sets of lives at a time, in the 64 bits of one number.
 //
-// A block is the 64 sets whose masks are 64 times its number and the 63 above it: the lives from 6 on
-// are the same in all of them, and the lives 0 to 5 go through all their sets.
+// A block is the 64 sets whose masks are 64 times its number and the 63 above it: the lives from 6
+// on are the same in all of them, and the lives 0 to 5 go through all their sets.
 ghost use Rattle.std.specs.Prelude.{◌≡◌, ℕ, ◌+◌, ◌*◌, ◌<◌, ◌≤◌, ◌&&◌, not, get_or, length, nat_eq, nat_le, bit_and, bit_or};
 ghost use Rattle.std.specs.List.{list_all, list_any};
 ghost use Rattle.halo_sums.specs.Masks.{has_bit};
@@ -14,8 +14,8 @@ ghost use Rattle.halo_status.specs.View.{is_on};
 use crate::{Members, Status, View};
 use halo_sums::has_bit;
 
-// The numbers of members that are told apart, from 0 on: one more than the most members of a list and
-// one above that.
+// The numbers of members that are told apart, from 0 on: one more than the most members of a list
+// and one above that.
 const COUNTS: usize = 18;
 
 impl Status {
@@ -48,7 +48,8 @@ impl Status {
 
 /// On which sets of a block exactly so many of some members exist.
 pub fn exactly_in_block(members: &Members, count: u8, block: u16, view: View, t: u16) -> u64
-    ensures { IsInBlock block (λ alive. nat_eq (count_true (each_exists alive (is_on view t) (trees_in members.now))) count) result }
+    ensures { IsInBlock block (λ alive. nat_eq
+        (count_true (each_exists alive (is_on view t) (trees_in members.now))) count) result }
 {
     let counts = counts_in_block(members.as_slice(), block, view, t);
     exactly(&counts, count)
@@ -57,7 +58,8 @@ pub fn exactly_in_block(members: &Members, count: u8, block: u16, view: View, t:
 // On which sets of a block all of some members exist.
 #[cycle(existing_in_block)]
 fn all_in_block(members: &[Status], block: u16, view: View, t: u16) -> u64
-    ensures { IsInBlock block (λ alive. list_all (λ b. b) (each_exists alive (is_on view t) (trees_in members.now))) result }
+    ensures { IsInBlock block (λ alive. list_all (λ b. b)
+        (each_exists alive (is_on view t) (trees_in members.now))) result }
 {
     let mut all = u64::MAX;
     for member in members {
@@ -69,7 +71,8 @@ fn all_in_block(members: &[Status], block: u16, view: View, t: u16) -> u64
 // On which sets of a block at least one of some members exists.
 #[cycle(existing_in_block)]
 fn any_in_block(members: &[Status], block: u16, view: View, t: u16) -> u64
-    ensures { IsInBlock block (λ alive. list_any (λ b. b) (each_exists alive (is_on view t) (trees_in members.now))) result }
+    ensures { IsInBlock block (λ alive. list_any (λ b. b)
+        (each_exists alive (is_on view t) (trees_in members.now))) result }
 {
     let mut any = 0;
     for member in members {
@@ -82,7 +85,9 @@ fn any_in_block(members: &[Status], block: u16, view: View, t: u16) -> u64
 #[cycle(existing_in_block)]
 fn counts_in_block(members: &[Status], block: u16, view: View, t: u16) -> [u64; COUNTS]
     requires { length members.now ≤ 16 }
-    ensures { (k : ℕ) → IsInBlock block (λ alive. nat_le k (count_true (each_exists alive (is_on view t) (trees_in members.now)))) (get_or result k 0) }
+    ensures { (k : ℕ) → IsInBlock block (λ alive. nat_le k
+        (count_true (each_exists alive (is_on view t) (trees_in members.now))))
+        (get_or result k 0) }
 {
     let mut counts = [0; COUNTS];
     counts[0] = u64::MAX;
@@ -95,7 +100,8 @@ fn counts_in_block(members: &[Status], block: u16, view: View, t: u16) -> [u64; 
 // Counts one member more: where it exists, at least one more exists than before.
 fn count_more(counts: &mut [u64], member: u64)
     ensures length { length counts.new ≡ length counts.old }
-    ensures counts { (k : ℕ) → k < length counts.old → get_or counts.new k 0 ≡ bit_or (get_or counts.old k 0) (bit_and (fewer_at counts.old k) member) }
+    ensures counts { (k : ℕ) → k < length counts.old → get_or counts.new k 0
+        ≡ bit_or (get_or counts.old k 0) (bit_and (fewer_at counts.old k) member) }
 {
     let mut fewer = 0;
     for k in 0..counts.len() {
@@ -118,7 +124,9 @@ fn at_least(counts: &[u64], count: usize) -> u64
 
 // On which sets exactly so many exist, from the counts.
 fn exactly(counts: &[u64], count: u8) -> u64
-    ensures { (j : ℕ) → j < 64 → has_bit result j ≡ (has_bit (get_or counts.now count 0) j && not (has_bit (get_or counts.now (count + 1) 0) j)) }
+    ensures { (j : ℕ) → j < 64 → has_bit result j
+        ≡ (has_bit (get_or counts.now count 0) j
+        && not (has_bit (get_or counts.now (count + 1) 0) j)) }
 {
     let count = count as usize;
     at_least(counts, count) & !at_least(counts, count + 1)

@@ -4,11 +4,11 @@ use crate::Status;
 /// What a pay is: the symbols A, a and ad of the halo notation.
 #[derive(Clone, Copy, Debug, PartialEq, Eq)]
 pub enum Kind {
-    /// A payment at the end of the year in which the status fails.
+    /// A payment at the end of the year in which the status fails: `A`.
     Insurance,
-    /// Yearly payments at the ends of the years at which the status exists.
+    /// Yearly payments at the ends of the years at which the status exists: `a`.
     Immediate,
-    /// Yearly payments at the beginnings of the years at which the status exists.
+    /// Yearly payments at the beginnings of the years at which the status exists: `ä`.
     Due,
 }
 
@@ -23,7 +23,8 @@ pub enum Vary {
     Decreasing(u16),
 }
 
-/// A member of a joint status at whose failure an insurance pays, if it fails at its rank.
+/// A member of a joint status at whose failure an insurance pays, if it fails at its rank: what
+/// makes it a contingent insurance.
 #[derive(Clone, Copy, Debug, PartialEq, Eq)]
 pub struct Mark {
     /// The place of the member, from 0.

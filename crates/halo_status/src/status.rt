@@ -27,15 +27,15 @@ pub enum Status {
     Life(u8),
     /// Exists for so many years.
     Term(u16),
-    /// Exists while all of its members exist.
+    /// Exists while all of its members exist: a joint-life status.
     Joint(Members),
-    /// Exists while at least one of its members exists.
+    /// Exists while at least one of its members exists: a last-survivor status.
     Last(Members),
-    /// Exists while at least so many of its members exist.
+    /// Exists while at least so many of its members exist: a k-survivor status.
     AtLeast(u8, Members),
-    /// Exists while exactly so many of its members exist.
+    /// Exists while exactly so many of its members exist: a deferred k-survivor status.
     Exactly(u8, Members),
-    /// Exists while the second exists and the first does not.
+    /// Exists while the second exists and the first does not: the status of a reversion.
     After(Box<Status>, Box<Status>),
 }
 
@@ -101,8 +101,8 @@ impl Status {
         }
     }
 
-    /// How many nodes its tree has, at most 2^32 - 1. It tells as well that each list in it has 1 to
-    /// 16 members.
+    /// How many nodes its tree has, at most 2^32 - 1. It tells as well that each list in it has 1
+    /// to 16 members.
     #[cycle(counting)]
     #[tactic(auto, using(crate::proofs::Shapes::shapes))]
     pub fn nodes(&self) -> u32
@@ -169,7 +169,8 @@ impl Status {
 // How many of some members exist.
 #[cycle(existing)]
 fn count_existing(members: &[Status], alive: u16, view: View, t: u16) -> usize
-    ensures { result ≡ count_true (each_exists (has_bit alive) (is_on view t) (trees_in members.now)) }
+    ensures { result
+        ≡ count_true (each_exists (has_bit alive) (is_on view t) (trees_in members.now)) }
 {
     let mut count = 0;
     for member in members {

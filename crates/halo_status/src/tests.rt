@@ -39,7 +39,8 @@ fn nested(alloc: Global) -> Result<Status, Memory> {
 // Two years of life 15 after life 1.
 #[tactic(auto, using(crate::proofs::Shapes::shapes))]
 fn years_after(alloc: Global) -> Result<Status, Memory>
-    ensures { IfOk result (λ s. tree_of s ≡ after (life 1) (joint (more (term 2) (more (life 15) none)))) }
+    ensures { IfOk result
+        (λ s. tree_of s ≡ after (life 1) (joint (more (term 2) (more (life 15) none)))) }
 {
     let first = Box::new(alloc, Status::Life(1)).map_err(|_| Memory)?;
     let years = pair(alloc, Status::Term(2), Status::Life(15))?;
