@@ -1,4 +1,4 @@
-// One entry of a column: a discount times a count of lives.
+// One entry of a column: a power of the discount factor times a count of lives.
 ghost use Rattle.std.specs.Prelude.{◌≡◌, ◌≤◌, ◌+◌, ◌*◌, ℕ, pos};
 ghost use Rattle.halo_num.specs.Ends.{fine, HasWidth, IsWithin};
 ghost use Rattle.halo_num.specs.Enclosure.{Encloses};
@@ -28,8 +28,8 @@ pub enum Counted {
     LeaversBy(u8),
 }
 
-// The entry of an age in the column that counts these lives: the discount of as many years as the
-// age has, or of one more where it counts those who leave, times their number.
+// The entry of an age in the column that counts these lives: the discount factors of as many years
+// as the age has, or of one more where it counts those who leave, times their number.
 pub fn entry(tables: &Tables, table: u8, powers: &Powers, what: Counted, age: u16) -> Ival
     requires row { HasRow tables.now table age }
     requires known { IsKnown tables.now what }
@@ -61,7 +61,7 @@ fn leavers(tables: &Tables, table: u8, age: u16) -> u64
     tables.survivors(table, age) - tables.survivors(table, age + 1)
 }
 
-// A discount times a count.
+// A discount factor times a count.
 fn times(discount: Ival, count: u64) -> Ival
     requires part { IsWithin discount (pos 0) (pos fine) }
     requires small { count ≤ GREATEST_COUNT }

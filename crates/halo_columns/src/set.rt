@@ -78,7 +78,7 @@ impl Model for ColumnSet {
 }
 
 impl ColumnSet {
-    /// D: the survivors at an age of the table, discounted from it to birth.
+    /// D: the survivors at an age of the table, discounted from it to birth. D_x = v^x · l_x
     pub fn d(&self, age: u16) -> Ival
         requires { age ≤ self.now.last_age }
         ensures { result ≡ entry_at self.now self.now.survivors.discounted age }
@@ -86,7 +86,7 @@ impl ColumnSet {
         at(&self.survivors.discounted, self.last_age - age)
     }
 
-    /// N: the sum of D from an age of the table on.
+    /// N: the sum of D from an age of the table on. N_x = Σ_k D_(x+k)
     pub fn n(&self, age: u16) -> Ival
         requires { age ≤ self.now.last_age }
         ensures { result ≡ entry_at self.now self.now.survivors.sums age }
@@ -94,7 +94,7 @@ impl ColumnSet {
         at(&self.survivors.sums, self.last_age - age)
     }
 
-    /// S: the sum of N from an age of the table on.
+    /// S: the sum of N from an age of the table on. S_x = Σ_k N_(x+k)
     pub fn s(&self, age: u16) -> Ival
         requires { age ≤ self.now.last_age }
         ensures { result ≡ entry_at self.now self.now.survivors.sums_of_sums age }
@@ -103,6 +103,7 @@ impl ColumnSet {
     }
 
     /// C: those who leave at an age of the table, discounted from the end of the year to birth.
+    /// C_x = v^(x+1) · d_x
     pub fn c(&self, age: u16) -> Ival
         requires { age ≤ self.now.last_age }
         ensures { result ≡ entry_at self.now self.now.leavers.discounted age }
@@ -110,7 +111,7 @@ impl ColumnSet {
         at(&self.leavers.discounted, self.last_age - age)
     }
 
-    /// M: the sum of C from an age of the table on.
+    /// M: the sum of C from an age of the table on. M_x = Σ_k C_(x+k)
     pub fn m(&self, age: u16) -> Ival
         requires { age ≤ self.now.last_age }
         ensures { result ≡ entry_at self.now self.now.leavers.sums age }
@@ -118,7 +119,7 @@ impl ColumnSet {
         at(&self.leavers.sums, self.last_age - age)
     }
 
-    /// R: the sum of M from an age of the table on.
+    /// R: the sum of M from an age of the table on. R_x = Σ_k M_(x+k)
     pub fn r(&self, age: u16) -> Ival
         requires { age ≤ self.now.last_age }
         ensures { result ≡ entry_at self.now self.now.leavers.sums_of_sums age }
@@ -162,7 +163,8 @@ fn at(column: &[Ival], younger: u16) -> Ival
 /// k + 1.
 ///
 /// Each entry encloses its column at that age. Those of D and C are 3 fine units wide at most for
-/// each year of discount and each life that is counted, and sums are as wide as what they add up.
+/// each year that is discounted and each life that is counted, and sums are as wide as what they
+/// add up.
 /// The counter is raised by at most 200.
 pub fn columns<L: Ledger>(
     alloc: Global,
@@ -180,7 +182,7 @@ pub fn columns<L: Ledger>(
     discounted_columns(alloc, tables, table, &powers)
 }
 
-// The columns with these discounts.
+// The columns with these powers of the discount factor.
 fn discounted_columns(
     alloc: Global,
     tables: &Tables,
