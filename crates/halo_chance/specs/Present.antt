@@ -1,5 +1,5 @@
--- Present values along the tree: what the product of a discount and of a chance along the tree
--- encloses, of the parts of a value.
+-- Present values along the tree: what the product of a discount factor and of a chance along the
+-- tree encloses, of the parts of a value.
 use Rattle.std.specs.Prelude.{ℕ, suc, ◌+◌, ◌-◌, ◌*◌, ◌<◌, ◌≤◌, Bool, IsTrue, length, pos, ◌*ℤ◌}
 use Rattle.halo_sums.specs.Sums.{indicator, numbers_from, product_over}
 use Rattle.halo_num.specs.Ends.{Ends}
@@ -21,7 +21,8 @@ use Rattle.halo_model.specs.Independent.{started_of, survivors_of}
 use Rattle.halo_model.specs.PartsByTree.{leavers_of, put_for, waiting}
 use Rattle.halo_chance.specs.Loss.{loss_of}
 
--- the product of the discounts of the years from T to t, and in which parts it is told
+-- the product of the discount factors of the years from T to t, and in which parts it is told:
+-- v^(t-T) where all are v
 abbrev pub discount_to : Basis → ℕ → ℕ → ℕ
 discount_to b T t = product_over (numbers_from T (t - T)) b.q
 
@@ -49,8 +50,8 @@ abbrev pub whole_but_one : Basis → PlainPay → ℕ → ℕ → (ℕ → Bool)
 whole_but_one b pay T a S =
     whole_of (put_for a 1 (started_of T S b.lives)) (waiting pay.mark pay.body)
 
--- of 1 paid at time t if the body exists then: the discount times the chance along the tree is the
--- value at T
+-- of 1 paid at time t if the body exists then: the discount factor times the chance along the tree
+-- is the value at T
 abbrev pub ExistingPresent : Type 0
 ExistingPresent =
     (b : Basis) → AreLives b.lives → (pay : PlainPay) → IsReadOnce pay.body
@@ -63,7 +64,7 @@ ExistingPresent =
     (joint_survivors T S b.lives * accumulated b T)
 
 -- of 1 paid at the end of year k if a payment falls on the leaving of life a in that year: the
--- discount times the chance of the leaving times the loss of the status with life a
+-- discount factor times the chance of the leaving times the loss of the status with life a
 abbrev pub LeavingPresent : Type 0
 LeavingPresent =
     (b : Basis) → AreLives b.lives → (pay : PlainPay) → IsValidInsurance pay → IsReadOnce pay.body

@@ -3,8 +3,8 @@
 ghost use Rattle.halo_chance.specs.Present.{ExistingPresent, LeavingPresent};
 
 /// What the products enclose that a value is added up from, over the common denominator of values:
-/// of a time, the discount times the chance along the tree; of a life's leaving in a year, the
-/// discount times the chance of the leaving times the loss of the status with that life.
+/// of a time, the discount factor times the chance along the tree; of a life's leaving in a year,
+/// the discount factor times the chance of the leaving times the loss of the status with that life.
 pub fn present_values_go_along_the_tree()
     ensures existing { ExistingPresent }
     ensures leaving { LeavingPresent }

@@ -1,4 +1,4 @@
-// The chance of the status on which an insurance on a marked member waits: the member exists, and
+// The chance of the status on which a contingent insurance waits: its marked member exists, and
 // exactly so many others that it fails at its rank if it fails next.
 
 ghost use Rattle.std.specs.Prelude.{◌≡◌, ℕ, ◌+◌, ◌-◌, ◌*◌, ◌^◌, ◌<◌, ◌≤◌, Some, length, pos, true};
