@@ -56,6 +56,7 @@ leavers_of_life g causes k i =
 
 -- the chances of a life are told in parts of its survivors at the group's time, and of 1 for a life
 -- that is not alive then: that it is alive at time t, and that it leaves in year k
+-- ₜp_x = l_(x+t) / l_x and ₖ|q_x = d_(x+k) / l_x, from the start of the contract
 abbrev pub started : PlainGroup → ℕ → ℕ
 started g i = cond (has_bit g.alive i) (survivors_in g g.start i) 1
 

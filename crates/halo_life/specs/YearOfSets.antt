@@ -17,6 +17,7 @@ use Rattle.halo_life.specs.Total.{is_within}
 
 -- the list encloses, for each set of n lives within another, the chance that all of the set, alive
 -- at k, are alive at k + 1, with a width of 2 for each life of the set
+-- p_(x:y) = p_x · p_y
 abbrev pub EncloseSurvivals : ℕ → List PlainLife → ℕ → ℕ → List Ends → Type 0
 EncloseSurvivals n lives k named list = (mask : ℕ) → mask < 2 ^ n → is_within mask named ≡ true
     → EnclosesChance

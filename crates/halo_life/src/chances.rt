@@ -18,6 +18,7 @@ use halo_sums::has_bit;
 impl<'a, const N: usize> Group<'a, N> {
     /// The probability that life `i` is alive at time `t`, at most 1 fine unit wide: exactly 0 for
     /// a life that is not alive at the group's time, and exactly 1 at that time for one that is.
+    /// From the start of a contract it is ₜp_x = l_(x+t) / l_x.
     pub fn survive(&self, i: u8, t: u16) -> Ival
         requires life { i < N }
         requires from { self.now.start ≤ t }
@@ -38,7 +39,7 @@ impl<'a, const N: usize> Group<'a, N> {
 
     /// The probability that life `i` leaves in year `k`, at most 1 fine unit wide, by one of some
     /// causes, or by any where there are none: exactly 0 for a life that is not alive at the
-    /// group's time.
+    /// group's time. From the start of a contract it is ₖ|q_x = d_(x+k) / l_x.
     pub fn leave(&self, i: u8, k: u16, causes: Option<u8>) -> Ival
         requires life { i < N }
         requires from { self.now.start ≤ k }
