@@ -41,6 +41,7 @@ due_numerator_at b pay t = pos (length (taken b)) *ℤ due_part b (as_due pay) 0
 -- A level insurance of 1, from the start with all lives, is worth 1 less the interest in advance on
 -- what the annuity-due pays: year k takes p / (p + q) of the payment at its start, and each of
 -- these quotients is whole.
+-- A = 1 - d · ä, with the discount d = 1 - v = p / (p + q)
 abbrev pub InsuranceFromAnnuity : Type 0
 InsuranceFromAnnuity = (b : Basis)
     → AreLives b.lives → EndBy b.last_time b.lives → (pay : PlainPay) → IsValidInsurance pay

@@ -24,7 +24,8 @@ asked (Some causes) j = has_bit causes j
 -- whether a life leaves in year k and a payment falls on that
 abbrev pub paid_at_exit : PlainPay → (ℕ → ℕ) → ℕ → ℕ → ℕ → Outcome → Option Exit → Bool
 paid_at_exit pay rank T a k o None = false
-paid_at_exit pay rank T a k o (Some exit) = nat_eq exit.year k && falls_on pay rank T o (leaves a exit)
+paid_at_exit pay rank T a k o (Some exit) =
+    nat_eq exit.year k && falls_on pay rank T o (leaves a exit)
 
 abbrev pub paid_on_leaving : PlainPay → (ℕ → ℕ) → ℕ → ℕ → ℕ → Outcome → Bool
 paid_on_leaving pay rank T a k o = paid_at_exit pay rank T a k o (get_or o a None)
@@ -39,6 +40,7 @@ abbrev pub IsMarkedAnd : Option Mark → Tree → (Tree → Type 0) → Type 0
 IsMarkedAnd None body P = ⊥
 IsMarkedAnd (Some mark) body P = IsSomeAnd (member_at (members_of body) mark.member) P
 
--- f just before the end of a term of n years, when the terms of at least n years are on, less f just after it
+-- f just before the end of a term of n years, when the terms of at least n years are on, less f
+-- just after it
 abbrev pub ending : PlainPay → ℕ → List Bool → ℤ
 ending pay n u = existence_with pay (λ m. nat_le n m) u -ℤ existence_with pay (λ m. nat_lt n m) u

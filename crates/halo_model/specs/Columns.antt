@@ -34,7 +34,7 @@ years_of c = record { p = c.p; q = c.q; last_time = end_age c; lives = []; ties 
 unfoldable pub column_denominator : ColumnBasis → ℕ
 column_denominator c = accumulated (years_of c) 0
 
--- v^t in these parts: the product of the discounts q / (p + q) of t years
+-- v^t in these parts: the product of the discount factors q / (p + q) of t years
 unfoldable pub discount_power : ColumnBasis → ℕ → ℕ
 discount_power c t = discounted (years_of c) 0 t
 

@@ -1,4 +1,5 @@
--- How wide an enclosure of a value may be: counts of rounding steps, from the contract and its tables alone.
+-- How wide an enclosure of a value may be: counts of rounding steps, from the contract and its
+-- tables alone.
 use Rattle.std.specs.Prelude.{ℕ, ◌+◌, ◌*◌, ◌^◌, cond, List, [], ◌∷◌, length, map, max, ℤ, pos, negsuc, suc}
 use Rattle.halo_sums.specs.Sums.{numbers_from, sum_over}
 use Rattle.halo_status.specs.Tree.{Tree}
@@ -29,9 +30,12 @@ abbrev pub greatest : ℕ → List ℕ → ℕ
 greatest least [] = least
 greatest least (n ∷ ns) = max n (greatest least ns)
 
--- the weight of a form (G): the greatest sum of the sizes of its coefficients over its times, at least 1
+-- the weight of a form (G): the greatest sum of the sizes of its coefficients over its times, at
+-- least 1
 abbrev pub form_weight : PlainPay → ℕ → ℕ → ℕ
-form_weight pay n horizon = greatest 1 (map (λ t. sum_over (coefficients_at pay n t) size) (numbers_from (first_time pay.kind) horizon))
+form_weight pay n horizon = greatest 1
+    (map (λ t. sum_over (coefficients_at pay n t) size)
+    (numbers_from (first_time pay.kind) horizon))
 
 -- the greatest factor of a pay up to its horizon (f)
 abbrev pub greatest_factor : Vary → ℕ → ℕ
@@ -44,8 +48,9 @@ abbrev pub order_share : Ties → Kind → ℕ → ℕ
 order_share Even Insurance named = 2 ^ (named + 1)
 order_share _ _ named = 1
 
--- what the counts of a pay are made of, each from the contract and its tables: the nodes of its body, the lives that it names, its horizon, the weight of its form,
--- its greatest factor, and the share of the orders
+-- what the counts of a pay are made of, each from the contract and its tables: the nodes of its
+-- body, the lives that it names, its horizon, the weight of its form, its greatest factor, and the
+-- share of the orders
 pub record Measures : Type 0 where
   pub nodes : ℕ
   pub named : ℕ
@@ -69,7 +74,9 @@ measures_of b pay =
 
 -- the width in fine units that the value of a pay of amount 1 may have (Count)
 unfoldable pub width_count : Measures → ℕ
-width_count m = 6 * (m.nodes + 1) ^ 2 * m.weight * (m.horizon + 1) * (m.horizon + m.named + 3) * m.factor * m.share
+width_count m =
+    6 * (m.nodes + 1) ^ 2 * m.weight * (m.horizon + 1) * (m.horizon + m.named + 3) * m.factor
+    * m.share
 
 -- the most that a pay of amount 1 can be worth (Most)
 unfoldable pub most_worth : Kind → Measures → ℕ

@@ -1,4 +1,5 @@
--- The events of an outcome: lives leave, and terms end. A term of n years ends in year n - 1, after the lives of that year.
+-- The events of an outcome: lives leave, and terms end. A term of n years ends in year n - 1, after
+-- the lives of that year.
 use Rattle.std.specs.Prelude.{ℕ, suc, ◌-◌, Bool, false, not, ◌&&◌, ◌||◌, nat_eq, nat_lt, nat_le, List, [], ◌∷◌, filter, get_or, map, Option, Some, None}
 use Rattle.halo_sums.specs.Sums.{numbers_from}
 use Rattle.halo_status.specs.Tree.{Tree}
@@ -25,10 +26,12 @@ leavings i (Some exit ∷ o) = leaves i exit ∷ leavings (suc i) o
 abbrev pub term_ends : ℕ → Tree → List Event
 term_ends last body = map ends (filter (λ n. names_term n body) (numbers_from 1 last))
 
--- whether life i leaves no earlier than an event comes; the lives that leave in one year do so by their ranks
+-- whether life i leaves no earlier than an event comes; the lives that leave in one year do so by
+-- their ranks
 abbrev pub life_not_earlier : (ℕ → ℕ) → Event → ℕ → Option Exit → Bool
 life_not_earlier rank event i None = false
-life_not_earlier rank (leaves a x) i (Some y) = nat_lt x.year y.year || (nat_eq x.year y.year && nat_le (rank a) (rank i))
+life_not_earlier rank (leaves a x) i (Some y) =
+    nat_lt x.year y.year || (nat_eq x.year y.year && nat_le (rank a) (rank i))
 life_not_earlier rank (ends n) i (Some y) = nat_lt (n - 1) y.year
 
 -- whether a term of n years ends no earlier than an event comes
@@ -46,7 +49,8 @@ abbrev pub is_end_of : Event → ℕ → Bool
 is_end_of (leaves a x) n = false
 is_end_of (ends m) n = nat_eq m n
 
--- the lives that are there just before an event, and the terms that are on: those whose own event is not earlier
+-- the lives that are there just before an event, and the terms that are on: those whose own event
+-- is not earlier
 abbrev pub lives_before : (ℕ → ℕ) → Outcome → Event → ℕ → Bool
 lives_before rank o event i = life_not_earlier rank event i (get_or o i None)
 

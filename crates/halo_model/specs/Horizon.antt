@@ -8,9 +8,15 @@ use Rattle.halo_model.specs.Life.{PlainLife}
 
 -- for how many years the table of life i goes on, 0 for a life that there is not
 abbrev pub years_left_of : List PlainLife → ℕ → ℕ
-years_left_of lives i = (get_or lives i (record { years_left = 0; causes = 0; survivors = λ t. 0; leavers = λ k j. 0 })).years_left
+years_left_of lives i = (get_or lives i (record {
+  years_left = 0;
+  causes = 0;
+  survivors = λ t. 0;
+  leavers = λ k j. 0;
+})).years_left
 
--- the longest of the years that the lives of a status have left and of its terms, 0 where it has neither
+-- the longest of the years that the lives of a status have left and of its terms, 0 where it has
+-- neither
 abbrev mutual
   pub longest : (ℕ → ℕ) → Tree → ℕ
   longest years_left (life i) = years_left i
@@ -23,7 +29,8 @@ abbrev mutual
 
   pub longest_of : (ℕ → ℕ) → Trees → ℕ
   longest_of years_left none = 0
-  longest_of years_left (more s members) = max (longest years_left s) (longest_of years_left members)
+  longest_of years_left (more s members) =
+      max (longest years_left s) (longest_of years_left members)
 
 -- the horizon of a status of some lives: the longest of these years, at least 1
 unfoldable pub horizon : List PlainLife → Tree → ℕ
@@ -50,7 +57,8 @@ HaveRows file lives members = (i : ℕ) → IsTrue (any_names_life i members)
 abbrev pub HaveShortTerms : Trees → Type 0
 HaveShortTerms members = (n : ℕ) → IsTrue (any_names_term n members) → n ≤ 200
 
--- a number of years that is at least 1, as many as each life that a status names has left, and as long as each of its terms
+-- a number of years that is at least 1, as many as each life that a status names has left, and as
+-- long as each of its terms
 pub record Covers (lives : List PlainLife) (body : Tree) (years : ℕ) : Type 0 where
   pub one : 1 ≤ years
   pub each_life : (i : ℕ) → IsTrue (names_life i body) → years_left_of lives i ≤ years
@@ -58,4 +66,5 @@ pub record Covers (lives : List PlainLife) (body : Tree) (years : ℕ) : Type 0 
 
 -- the horizon is the least number of years that covers a status
 abbrev pub HorizonIsLeast : Type 0
-HorizonIsLeast = (lives : List PlainLife) (body : Tree) (years : ℕ) → (horizon lives body ≤ years) ↔ Covers lives body years
+HorizonIsLeast = (lives : List PlainLife) (body : Tree) (years : ℕ)
+    → (horizon lives body ≤ years) ↔ Covers lives body years

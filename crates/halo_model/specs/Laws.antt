@@ -22,15 +22,18 @@ abbrev pub WeightsAddUp : Type 0
 WeightsAddUp = (T : ℕ) (S : ℕ → Bool) (lives : List PlainLife) → AreLives lives
     → sum_over (outcomes T S lives) (λ o. weight lives o) ≡ joint_survivors T S lives
 
--- The sum over outcomes of weight times a function of the lives that are there, each life i at a time `times i` from T on.
--- It is the sum over all sets of lives of the function times the weight with which exactly the set is there ..
+-- The sum over outcomes of weight times a function of the lives that are there, each life i at a
+-- time `times i` from T on. It is the sum over all sets of lives of the function times the weight
+-- with which exactly the set is there ..
 abbrev pub ExpectedBySets : Type 0
 ExpectedBySets = (times : ℕ → ℕ) (T : ℕ) → ((i : ℕ) → T ≤ times i)
     → (S : ℕ → Bool) (lives : List PlainLife) → AreLives lives → (f : List Bool → ℤ)
-    → expected T S lives (λ o. f (there_at times o)) ≡ int_sum_over (sets (length lives)) (λ u. exactly_there times T S lives u *ℤ f u)
+    → expected T S lives (λ o. f (there_at times o))
+    ≡ int_sum_over (sets (length lives)) (λ u. exactly_there times T S lives u *ℤ f u)
 
 -- .. and the sum of the coefficient times the weight with which at least the set is there
 abbrev pub ExpectedByCoefficients : Type 0
 ExpectedByCoefficients = (times : ℕ → ℕ) (T : ℕ) → ((i : ℕ) → T ≤ times i)
     → (S : ℕ → Bool) (lives : List PlainLife) → AreLives lives → (f : List Bool → ℤ)
-    → expected T S lives (λ o. f (there_at times o)) ≡ int_sum_over (sets (length lives)) (λ s. coefficient f s *ℤ all_there times T S lives s)
+    → expected T S lives (λ o. f (there_at times o))
+    ≡ int_sum_over (sets (length lives)) (λ s. coefficient f s *ℤ all_there times T S lives s)

@@ -11,7 +11,7 @@ pub record PlainLife : Type 0 where
   pub survivors : ℕ → ℕ
   pub leavers : ℕ → ℕ → ℕ
 
--- those who leave in year k by whichever cause
+-- those who leave in year k by whichever cause: d_(x+k), the sum of d_(x+k) by each cause j
 abbrev pub leavers_in : PlainLife → ℕ → ℕ
 leavers_in x k = sum_over (numbers_from 0 x.causes) (x.leavers k)
 

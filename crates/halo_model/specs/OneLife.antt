@@ -13,6 +13,7 @@ use Rattle.halo_model.specs.Value.{denominator, numerator}
 
 -- The annuity-due on the one life x of a contract: the sum over the times of the payment,
 -- discounted, times the survivors, over the survivors at the start.
+-- ä_x = Σ_t v^t · l_(x+t) / l_x
 pub record IsDueOnOneLife (b : Basis) (x : PlainLife) (pay : PlainPay) : Type 0 where
   pub num : numerator b pay 0 all_lives
       ≡ sum_over (numbers_from 0 (suc b.last_time)) (λ t. cond
@@ -27,6 +28,7 @@ DueOnOneLife = (b : Basis) (x : PlainLife) → b.lives ≡ x ∷ [] → IsLife x
 -- The insurance on the one life x of a contract: the sum over the years of its table of the payment
 -- at the end of the year, discounted, times those who leave in the year by the causes that it asks
 -- for, over the survivors at the start.
+-- A_x = Σ_k v^(k+1) · d_(x+k) / l_x
 pub record IsInsuranceOnOneLife (b : Basis) (x : PlainLife) (pay : PlainPay) : Type 0 where
   pub num : numerator b pay 0 all_lives
       ≡ sum_over (numbers_from 0 x.years_left) (λ k. cond (nat_le pay.defer k) (payment pay

@@ -27,12 +27,15 @@ pub record Run : Type 0 where
 
 -- the times of a run have equal coefficients
 abbrev pub IsUniform : PlainPay → ℕ → Run → Type 0
-IsUniform pay n run = (t : ℕ) → run.first ≤ t → t ≤ run.last → coefficients_at pay n t ≡ coefficients_at pay n run.first
+IsUniform pay n run = (t : ℕ) → run.first ≤ t → t ≤ run.last
+    → coefficients_at pay n t ≡ coefficients_at pay n run.first
 
--- some runs follow one another from a first time to a last one; the coefficients are equal within each run, and change between them
+-- some runs follow one another from a first time to a last one; the coefficients are equal within
+-- each run, and change between them
 abbrev pub AreSegmentsFrom : PlainPay → ℕ → ℕ → ℕ → List Run → Type 0
 AreSegmentsFrom pay n first last [] = ⊥
-AreSegmentsFrom pay n first last (run ∷ []) = (run ≡ record { first = first; last = last }) × (first ≤ last) × IsUniform pay n run
+AreSegmentsFrom pay n first last (run ∷ []) =
+    (run ≡ record { first = first; last = last }) × (first ≤ last) × IsUniform pay n run
 AreSegmentsFrom pay n first last (run ∷ next ∷ runs) =
     (run.first ≡ first) × (first ≤ run.last) × IsUniform pay n run
     × (coefficients_at pay n (suc run.last) ≢ coefficients_at pay n first)
@@ -40,4 +43,5 @@ AreSegmentsFrom pay n first last (run ∷ next ∷ runs) =
 
 -- the segments of the form of a pay on n lives, over all times up to its horizon
 abbrev pub AreSegments : PlainPay → ℕ → ℕ → List Run → Type 0
-AreSegments pay n horizon runs = AreSegmentsFrom pay n (first_time pay.kind) (last_time_of_form pay.kind horizon) runs
+AreSegments pay n horizon runs =
+    AreSegmentsFrom pay n (first_time pay.kind) (last_time_of_form pay.kind horizon) runs

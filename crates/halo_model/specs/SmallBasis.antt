@@ -17,27 +17,54 @@ row survivors leavers = record { survivors = survivors; leavers = leavers }
 
 -- a file of one table: of 4 alive at age 60 leave 2, then 1, then the last one, all by one cause
 abbrev pub one_cause : TableFile
-one_cause =
-    record { causes = [] ∷ []; tables = record { name = []; first_age = 60; rows = row 4 (2 ∷ []) ∷ row 2 (1 ∷ []) ∷ row 1 (1 ∷ []) ∷ [] } ∷ [] }
+one_cause = record {
+  causes = [] ∷ [];
+  tables = record {
+    name = [];
+    first_age = 60;
+    rows = row 4 (2 ∷ []) ∷ row 2 (1 ∷ []) ∷ row 1 (1 ∷ []) ∷ [];
+  } ∷ [];
+}
 
--- a file of one table with two causes: of 4 alive at age 60 one leaves by each, then of 2 one by each
+-- a file of one table with two causes: of 4 alive at age 60 one leaves by each, then of 2 one by
+-- each
 abbrev pub two_causes : TableFile
-two_causes =
-    record { causes = [] ∷ [] ∷ []; tables = record { name = []; first_age = 60; rows = row 4 (1 ∷ 1 ∷ []) ∷ row 2 (1 ∷ 1 ∷ []) ∷ [] } ∷ [] }
+two_causes = record {
+  causes = [] ∷ [] ∷ [];
+  tables = record {
+    name = [];
+    first_age = 60;
+    rows = row 4 (1 ∷ 1 ∷ []) ∷ row 2 (1 ∷ 1 ∷ []) ∷ [];
+  } ∷ [];
+}
 
--- three lives aged 60 in the table of a file, at the interest 1/1, up to time 3, when nobody is alive any more
+-- three lives aged 60 in the table of a file, at the interest 1/1, up to time 3, when nobody is
+-- alive any more
 abbrev pub small_basis : TableFile → Basis
-small_basis file =
-    record { p = λ k. 1; q = λ k. 1; last_time = 3; lives = life_of file 0 60 ∷ life_of file 0 60 ∷ life_of file 0 60 ∷ []; ties = Declared }
+small_basis file = record {
+  p = λ k. 1;
+  q = λ k. 1;
+  last_time = 3;
+  lives = life_of file 0 60 ∷ life_of file 0 60 ∷ life_of file 0 60 ∷ [];
+  ties = Declared;
+}
 
 -- a level pay of 1, without deferral, causes or mark
 abbrev pub plain : Kind → Tree → PlainPay
-plain kind body = record { amount = 1; vary = Level; kind = kind; defer = 0; causes = None; body = body; mark = None }
+plain kind body = record {
+  amount = 1;
+  vary = Level;
+  kind = kind;
+  defer = 0;
+  causes = None;
+  body = body;
+  mark = None;
+}
 
--- an insurance of 1 on a marked member at a rank
+-- a contingent insurance of 1 on a marked member at a rank
 abbrev pub marked : ℕ → ℕ → Tree → PlainPay
 marked member rank body =
-    record { amount = 1; vary = Level; kind = Insurance; defer = 0; causes = None; body = body; mark = Some (record { member = member; rank = rank }) }
+    record (plain Insurance body) { mark = Some (record { member = member; rank = rank }) }
 
 -- two statuses as members
 abbrev pub both : Tree → Tree → Trees

@@ -3,7 +3,8 @@ use Rattle.std.specs.Prelude.{ℕ, Bool, false, nat_le, List, [], ◌∷◌, get
 use Rattle.halo_model.specs.Life.{after_first}
 use Rattle.halo_model.specs.Outcome.{Exit, Outcome}
 
--- a life is there at time t where it leaves in year t or later; one that was gone before is never there
+-- a life is there at time t where it leaves in year t or later; one that was gone before is never
+-- there
 abbrev pub there : ℕ → Option Exit → Bool
 there t None = false
 there t (Some e) = nat_le t e.year

@@ -11,19 +11,25 @@ use Rattle.halo_model.specs.Basis.{Basis, accumulated, discounted, taken}
 use Rattle.halo_model.specs.Payment.{falls_on, payment, pays_due, pays_immediate}
 
 -- the value at T of what an annuity-due pays on an outcome
+-- Σ_(t ≤ K) v^t, on one life that leaves in year K
 abbrev pub due_value : Basis → PlainPay → ℕ → Outcome → ℕ
 due_value b pay T o =
-    sum_over (numbers_from 0 (suc b.last_time)) (λ t. cond (pays_due pay T o t) (payment pay (t - pay.defer) * discounted b T t) 0)
+    sum_over (numbers_from 0 (suc b.last_time))
+    (λ t. cond (pays_due pay T o t) (payment pay (t - pay.defer) * discounted b T t) 0)
 
 -- of what an annuity-immediate pays
+-- Σ_(1 ≤ t ≤ K) v^t, on such a life
 abbrev pub immediate_value : Basis → PlainPay → ℕ → Outcome → ℕ
 immediate_value b pay T o =
-    sum_over (numbers_from 1 b.last_time) (λ t. cond (pays_immediate pay T o t) (payment pay (t - pay.defer - 1) * discounted b T t) 0)
+    sum_over (numbers_from 1 b.last_time)
+    (λ t. cond (pays_immediate pay T o t) (payment pay (t - pay.defer - 1) * discounted b T t) 0)
 
 -- of what an insurance pays for an event, at the end of its year
+-- v^(K+1), on such a life
 abbrev pub event_value : Basis → PlainPay → (ℕ → ℕ) → ℕ → Outcome → Event → ℕ
 event_value b pay rank T o event =
-    cond (falls_on pay rank T o event) (payment pay (year_of event - pay.defer) * discounted b T (suc (year_of event))) 0
+    cond (falls_on pay rank T o event)
+    (payment pay (year_of event - pay.defer) * discounted b T (suc (year_of event))) 0
 
 -- and of what it pays for all events
 abbrev pub insurance_value : Basis → PlainPay → (ℕ → ℕ) → ℕ → Outcome → ℕ
@@ -42,10 +48,11 @@ outcome_value b pay rank T o = value_by_kind pay.kind b pay rank T o
 
 -- the sum over the outcomes from T, with the lives of S alive, of weight times value
 abbrev pub ranked_numerator : Basis → PlainPay → (ℕ → ℕ) → ℕ → (ℕ → Bool) → ℕ
-ranked_numerator b pay rank T S = sum_over (outcomes T S b.lives) (λ o. weight b.lives o * outcome_value b pay rank T o)
+ranked_numerator b pay rank T S =
+    sum_over (outcomes T S b.lives) (λ o. weight b.lives o * outcome_value b pay rank T o)
 
--- The value of a pay at T, with the lives of S alive, is numerator / denominator: the mean over the outcomes, and over the
--- orders in which the lives of one year may leave.
+-- The value of a pay at T, with the lives of S alive, is numerator / denominator: the mean over the
+-- outcomes, and over the orders in which the lives of one year may leave.
 unfoldable pub numerator : Basis → PlainPay → ℕ → (ℕ → Bool) → ℕ
 numerator b pay T S = sum_over (taken b) (λ order. ranked_numerator b pay (rank_in order) T S)
 

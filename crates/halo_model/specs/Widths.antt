@@ -26,8 +26,8 @@ benefit_width b pays = sum_over pays (pay_width b)
 abbrev pub benefit_most : Basis → List PlainPay → ℕ
 benefit_most b pays = sum_over pays (pay_most b)
 
--- The width of a premium: the annuity of the premium is worth at least 1, so the quotient is as wide as the benefits, with
--- their size times the width of the annuity, and the rounding.
+-- The width of a premium: the annuity of the premium is worth at least 1, so the quotient is as
+-- wide as the benefits, with their size times the width of the annuity, and the rounding.
 abbrev pub premium_width : Basis → List PlainPay → Tree → ℕ
 premium_width b pays status =
     benefit_width b pays + benefit_most b pays * pay_width b (premium_pay status) + 2
@@ -38,7 +38,8 @@ reserve_width b pays status =
     benefit_width b pays + benefit_most b pays * pay_width b (premium_pay status)
     + (b.last_time + 1) * premium_width b pays status + 2
 
--- what is printed: a pay or a part of it, the total and a reserve without a premium, the premium, and a reserve with one
+-- what is printed: a pay or a part of it, the total and a reserve without a premium, the premium,
+-- and a reserve with one
 unfoldable pub printed_pay_width : Basis → PlainPay → ℕ
 printed_pay_width b pay = printed_width (pay_width b pay)
 

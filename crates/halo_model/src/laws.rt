@@ -135,25 +135,27 @@ pub fn unnamed_lives_do_not_count()
 {}
 
 /// The annuity-due on one life is what the books write: the sum of the discounted payments times
-/// the survivors at their times, over the survivors at the start.
+/// the survivors at their times, over the survivors at the start. ä_x = Σ_t v^t · l_(x+t) / l_x
 pub fn due_on_one_life()
     ensures { DueOnOneLife }
 {}
 
 /// The insurance on one life is what the books write: the sum of the discounted payments times
 /// those who leave in their years, over the survivors at the start.
+/// A_x = Σ_k v^(k+1) · d_(x+k) / l_x
 pub fn insurance_on_one_life()
     ensures { InsuranceOnOneLife }
 {}
 
-/// An annuity on w after u and one on u and w together are worth what the annuity on w is worth.
+/// A reversion, the annuity on w after u, and one on u and w together are worth what the annuity on
+/// w is worth. a_(u|w) = a_w - a_(u:w)
 pub fn reversion_adds_up()
     ensures { ReversionAddsUp }
 {}
 
-/// Marks add up. Of joint members that share nothing one fails first, so the insurances on each
-/// member as the first are together the insurance on all; and a member fails at some rank, so the
-/// insurances on it at each rank are together the insurance on it alone.
+/// Contingent insurances add up. Of joint members that share nothing one fails first, so the
+/// insurances on each member as the first are together the insurance on all; and a member fails at
+/// some rank, so the insurances on it at each rank are together the insurance on it alone.
 pub fn marks_add_up()
     ensures first { FirstMarksAddUp }
     ensures ranks { RanksAddUp }
@@ -213,7 +215,7 @@ pub fn values_fit()
 {}
 
 /// Commutation columns give the values on one life: the annuity-due is worth N / D, and the
-/// insurance M / D, at the age of the life.
+/// insurance M / D, at the age of the life. ä_x = N_x / D_x and A_x = M_x / D_x
 pub fn columns_agree()
     ensures { ColumnsAgreeOnOneLife }
 {}
