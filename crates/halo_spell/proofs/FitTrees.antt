@@ -1,9 +1,9 @@
 -- Trees that can be written so that they are read again: what each node of them has.
-use Rattle.std.proofs.Common.{◌≡◌, ℕ, ◌+◌, ◌≤◌, ◌<◌, Bool, true, ◌||◌, arith}
-use Rattle.std.specs.Prelude.{IsTrue, ⊤}
+use Rattle.std.proofs.Common.{ℕ, ◌≤◌, ◌<◌}
+use Rattle.std.specs.Prelude.{⊤}
 use Rattle.halo_status.proofs.Agreement.{or-left, or-right, same}
 use Rattle.halo_status.specs.Bounds.{IsShort}
-use Rattle.halo_status.specs.Naming.{AnyNamesLivesBelow, NamesLivesBelow, any_names_life, names_life}
+use Rattle.halo_status.specs.Naming.{AnyNamesLivesBelow, NamesLivesBelow, names_life}
 use Rattle.halo_status.specs.Nodes.{AtEachNode, AtEachNodeIn, HasShortList}
 use Rattle.halo_status.specs.Tree.{Tree, Trees, life, term, joint, last, at_least, exactly, after, none, more, member_count}
 use Rattle.halo_status.specs.ValidPay.{HasLength, HasRank, IsLength, IsRank}

@@ -1,11 +1,9 @@
 -- The canonical symbol of a pay keeps the rules of symbols and of lines.
-use Rattle.std.proofs.Common.{◌≡◌, ℕ, zero, suc, ◌+◌, ◌≤◌, ◌<◌, ◌^◌, List, [], ◌∷◌, Option, Some, None, length, ap, sym, ◌∙◌, refl, arith}
+use Rattle.std.proofs.Common.{◌≡◌, ℕ, zero, suc, ◌≤◌, List, [], ◌∷◌, Option, Some, None, arith}
 use Rattle.std.specs.Prelude.{All, Contains, IfSome}
-use Rattle.std.specs.Fmt.{decimal}
 use Rattle.std.specs.Option.{option_and_then, option_map}
 use Rattle.std.proofs.lemmas.List.Elements.{All-contains_itself, All-head, All-tail}
-use Rattle.halo_text.specs.Number.{IsNumber, number}
-use Rattle.halo_status.specs.Nodes.{nodes}
+use Rattle.halo_text.specs.Number.{IsNumber}
 use Rattle.halo_status.specs.Pay.{PlainPay}
 use Rattle.halo_status.specs.Tree as status
 use Rattle.halo_status.specs.Tree.{Tree}
@@ -16,14 +14,11 @@ use Rattle.halo_status.specs.declared.pay.Mark.{Mark}
 use Rattle.halo_status.specs.declared.pay.Vary.{Vary}
 use Rattle.halo_status.specs.declared.pay.Vary.TheVariants as paid
 use Rattle.halo_symbol.specs.Proper.{AreProperNames, IsPlainName, IsProperSymbol, IsProperVary, MayHaveCauses, MayHaveMark, StandsIn}
-use Rattle.halo_symbol.specs.Symbol.{Names, Symbol}
-use Rattle.halo_symbol.specs.StatusOf.{tree_of_symbol}
-use Rattle.halo_parse.specs.Checks.{AreDifferent, FallsFromSome, HasYears, IsDeclared}
+use Rattle.halo_parse.specs.Checks.{AreDifferent, FallsFromSome}
 use Rattle.halo_parse.specs.Draft.{all_names, place_of}
 use Rattle.halo_parse.specs.Limits.{AreNamesWithin, IsShortName, IsSymbolWithin, IsUpTo, IsVaryWithin, any_life}
-use Rattle.halo_parse.specs.Parts as parts
 use Rattle.halo_parse.proofs.Nodes.{nodes-tree_of_symbol}
-use Rattle.halo_spell.specs.Canonical.{canonical_body, canonical_defer, canonical_mark, canonical_symbol, canonical_vary, name_at, names_in, set_of}
+use Rattle.halo_spell.specs.Canonical.{canonical_body, canonical_defer, canonical_mark, canonical_symbol, canonical_vary, names_in, set_of}
 use Rattle.halo_spell.proofs.NamesBack.{All-chosen, names_in-different}
 use Rattle.halo_spell.proofs.NumbersBack.{IsNumber-decimal, number-decimal}
 use Rattle.halo_spell.proofs.PartsBack.{IsGoodBody, good-canonical_body, member_count-canonical}

@@ -17,8 +17,8 @@ pub mod GoodSymbols
 pub mod WordsBack
 pub mod Rooms
 pub mod SpelledLines
+pub mod Brief
 pub mod LinesAgain
 pub mod Drafts
-pub mod WrittenContracts
 pub mod ReadsBack
 pub mod CausesLeft

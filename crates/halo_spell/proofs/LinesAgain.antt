@@ -1,5 +1,5 @@
 -- The canonical line of what a line adds passes all checks where that line stood, and adds the same.
-use Rattle.std.proofs.Common.{◌≡◌, ◌≢◌, ℕ, zero, suc, ◌+◌, ◌≤◌, ◌<◌, ◌^◌, List, [], ◌∷◌, ◌++◌, Option, Some, None, length, map, get_or, ap, ap₂, sym, ◌∙◌, refl, subst, arith}
+use Rattle.std.proofs.Common.{◌≡◌, ℕ, zero, suc, ◌+◌, ◌≤◌, ◌<◌, ◌^◌, List, [], ◌∷◌, ◌++◌, Option, Some, None, length, map, get_or, ap, ap₂, sym, ◌∙◌, refl, subst, arith}
 use Rattle.std.specs.Prelude.{All, Contains, IfSome}
 use Rattle.std.specs.Fmt.{decimal}
 use Rattle.std.specs.Option.{option_map}
@@ -24,24 +24,21 @@ use Rattle.halo_lex.specs.Lexeme.{IsLongName}
 use Rattle.halo_table.specs.DecrementTable.{DecrementTable, TableFile, empty_table, last_age_of, name_of, names_of}
 use Rattle.halo_table.specs.Sound.{IsSound}
 use Rattle.halo_parse.specs.Checks.{IsSome, IsWithinLimits, OfMembers, PassesAll, YearsRise, year_at}
-use Rattle.halo_parse.specs.Draft.{Draft, is_among, mask_of_names, pay_written, place_of, rate_from, with_line}
+use Rattle.halo_parse.specs.Draft.{Draft, mask_of_names, pay_written, place_of, rate_from, with_line}
 use Rattle.halo_contract.specs.PlainContract.{life_names}
-use Rattle.halo_parse.specs.Forms.{CameBefore}
 use Rattle.halo_parse.specs.Limits.{IsRateWithin, IsShortName, any_life}
 use Rattle.halo_parse.specs.Line.{Line, LaterRate, interest, life, pay, premium, reserve, ties}
 use Rattle.halo_parse.specs.LineReading.{nest_line}
 use Rattle.halo_parse.specs.ProperLine.{IsProperLine, IsProperRate}
 use Rattle.halo_contract.specs.declared.contract.LifeLine.{LifeLine}
 use Rattle.halo_parse.specs.declared.fault.ContractKind.TheVariants as kind
-use Rattle.halo_parse.specs.declared.form.Form.{Form}
 use Rattle.halo_parse.specs.declared.form.Form.TheVariants as form
-use Rattle.halo_contract.specs.declared.ties.Ties.{Ties}
 use Rattle.halo_contract.specs.declared.ties.Ties.TheVariants as rule
-use Rattle.halo_sums.proofs.SetMasks.{mask_of-lt}
+use Rattle.halo_parse.proofs.MasksOfNames.{mask_of_names-lt}
 use Rattle.halo_parse.proofs.Nodes.{nodes-tree_of_body}
 use Rattle.halo_spell.specs.Canonical.{canonical_body, canonical_mark, names_in}
 use Rattle.halo_spell.specs.ContractText.{canonical_rate, life_line, pay_line, premium_line, reserve_line}
-use Rattle.halo_spell.specs.Laws.{brief_rule, briefly}
+use Rattle.halo_spell.proofs.Brief.{brief_rule, briefly, came}
 use Rattle.halo_spell.proofs.GoodSymbols.{different_causes, falls_from_some, good_body, known_causes, proper_symbol, symbol_within}
 use Rattle.halo_spell.proofs.NamesBack.{All-chosen, All-names_of_mask, mask_back, name_back, names_in-different}
 use Rattle.halo_spell.proofs.NumbersBack.{IsNumber-decimal, number-decimal}
@@ -55,18 +52,6 @@ pub record IsAgain (tables : TableFile) (d : Draft) (l again : Line) : Type 0 wh
   pub depth : nest_line again ≤ 16
   pub passes : PassesAll tables (briefly d) again
   pub adds : with_line tables (briefly d) again ≡ briefly (with_line tables d l)
-
--- a rule that is said briefly was said
-said : (t : Option Ties) → brief_rule t ≢ None → t ≢ None
-said t brief none = brief (ap brief_rule none)
-
-came : (d : Draft) (f : Form) → CameBefore (briefly d) f → CameBefore d f
-came d form.Interest h = h
-came d form.Life h = h
-came d form.Ties h = said d.ties h
-came d form.Pay h = h
-came d form.Premium h = h
-came d form.Reserve h = h
 
 -- the digits of a number that is within a limit write it
 back : (limit n : ℕ) → limit < 2 ^ 64 → n ≤ limit → number (decimal n) ≡ n
@@ -98,7 +83,7 @@ mark_apart s kind (Some mark) can = one s can.1
 short_causes : (tables : TableFile) → IsSound tables → All IsShortName tables.causes
 short_causes tables sound = All-weaker IsName IsShortName (λ name is. is.short) tables.causes sound.causes
 
-module _ (tables : TableFile) (sound : IsSound tables) (d : Draft) (named : IsNamed d) where
+module _ (tables : TableFile) (sound : IsSound tables) (d : Draft) (named : IsNamed (life_names d.lives)) where
   abbrev names : List (List ℕ)
   names = life_names d.lives
 
@@ -193,12 +178,12 @@ module _ (tables : TableFile) (sound : IsSound tables) (d : Draft) (named : IsNa
       good = good-canonical_body names named.plain named.short t is.fit
 
       all : PassesAll tables (briefly d) (premium_line (life_names d.lives) (premium_pay t))
-      all kind.Magnitude = record { parts = good.within; few_nodes = rw (nodes-tree_of_body any_life (place_of names) (canonical_body names t), is.content) is.among.valid.few_nodes }
+      all kind.Magnitude = record { parts = good.within; few_nodes = rw (nodes-tree_of_body any_life (place_of names) (canonical_body names t), is.content) is.valid.few_nodes }
       all kind.Zero = good.years
       all kind.Order = λ f h. passes kind.Order f (came d f h)
       all kind.Twice = passes kind.Twice
       all kind.NoLife = good.declared
-      all kind.Rank = rw is.content is.among.valid.ranks
+      all kind.Rank = rw is.content is.valid.ranks
       all kind.NotAtStart = rw is.content is.at_start
       all k = tt
 
@@ -223,7 +208,7 @@ module _ (tables : TableFile) (sound : IsSound tables) (d : Draft) (named : IsNa
       time_is = back 200 (number time) (omega arith) (passes kind.Magnitude).0
 
       below : mask < 2 ^ length names
-      below = omega (arith, mask_of-lt (map (is_among alive) names), ap (λ n. 2 ^ n) (length-map names (is_among alive)))
+      below = mask_of_names-lt names alive
 
       mask_is : mask_of_names (life_names d.lives) again ≡ mask
       mask_is = mask_back names mask named.different below

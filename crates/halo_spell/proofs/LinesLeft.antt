@@ -1,5 +1,5 @@
 -- The texts of lines, and of parts of lines, that are still to be written.
-use Rattle.std.proofs.Common.{◌≡◌, ◌≢◌, ℕ, ◌+◌, ◌/◌, ◌%◌, ◌<◌, ◌≤◌, List, [], ◌∷◌, ◌++◌, append_assoc, append-nil, Some, drop, get_or, length, map, ap, sym, ◌∙◌, refl, arith, add-one, drop-cons}
+use Rattle.std.proofs.Common.{◌≡◌, ◌≢◌, ℕ, ◌+◌, ◌/◌, ◌%◌, ◌<◌, ◌≤◌, List, [], ◌∷◌, ◌++◌, append_assoc, append-nil, drop, get_or, length, map, ap, sym, ◌∙◌, refl, arith, add-one, drop-cons}
 use Rattle.std.specs.Prelude.{codes, flat_map}
 use Rattle.std.specs.Fmt.{decimal}
 use Rattle.std.specs.List.{join_with_byte}
@@ -48,7 +48,7 @@ rate_words_text (rate ∷ rates) =
 
 -- the line of an interest is its first fraction, and the others behind it
 pub interest_text : (rates : List Rate) → 1 ≤ length rates
-    → lines_text (interest_lines (Some rates)) ≡ codes "interest " ++ (fraction_word (decimal (rate_at rates 0).p) (decimal (rate_at rates 0).q) ++ (later_text (drop 1 rates) ++ codes "\n"))
+    → lines_text (interest_lines rates) ≡ codes "interest " ++ (fraction_word (decimal (rate_at rates 0).p) (decimal (rate_at rates 0).q) ++ (later_text (drop 1 rates) ++ codes "\n"))
 interest_text [] some = absurd (omega arith)
 interest_text (first ∷ later) some =
     let fraction = fraction_word (decimal first.p) (decimal first.q) in

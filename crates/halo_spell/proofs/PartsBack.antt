@@ -1,10 +1,10 @@
 -- The parts of the canonical tree of a fit status are such as a line may have.
-use Rattle.std.proofs.Common.{◌≡◌, ℕ, ◌+◌, ◌≤◌, ◌<◌, ◌^◌, List, [], length, get_or, arith, inl, inr, refl, ◌⊎◌}
-use Rattle.std.specs.Prelude.{All, Contains, ⊤}
+use Rattle.std.proofs.Common.{◌≡◌, ℕ, ◌+◌, ◌≤◌, ◌<◌, List, [], length, arith, inl, inr, refl, ◌⊎◌}
+use Rattle.std.specs.Prelude.{All, ⊤}
 use Rattle.std.specs.Fmt.{decimal}
 use Rattle.std.proofs.lemmas.List.Elements.{All-get_or}
 use Rattle.halo_parse.proofs.Places.{among_at}
-use Rattle.halo_text.specs.Number.{IsNumber, number}
+use Rattle.halo_text.specs.Number.{IsNumber}
 use Rattle.halo_status.specs.Nodes.{AtEachNode, AtEachNodeIn}
 use Rattle.halo_status.specs.Tree as status
 use Rattle.halo_status.specs.Tree.{Tree, Trees}

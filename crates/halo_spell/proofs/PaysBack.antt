@@ -1,15 +1,13 @@
 -- The canonical symbol of a pay writes the pay again.
-use Rattle.std.proofs.Common.{◌≡◌, ◌≢◌, ℕ, zero, suc, ◌+◌, ◌≤◌, ◌<◌, ◌^◌, List, [], ◌∷◌, Option, Some, None, length, ap, sym, ◌∙◌, refl, arith, inl, inr}
+use Rattle.std.proofs.Common.{◌≡◌, ◌≢◌, ℕ, zero, suc, ◌≤◌, ◌<◌, ◌^◌, List, [], ◌∷◌, Option, Some, None, length, ap, ◌∙◌, refl, arith}
 use Rattle.std.specs.Prelude.{All, IfSome}
 use Rattle.std.specs.Fmt.{decimal}
 use Rattle.std.specs.Option.{option_and_then, option_map}
-use Rattle.std.proofs.lemmas.List.Elements.{All-head, All-tail}
-use Rattle.halo_text.specs.Number.{IsNumber, number}
 use Rattle.halo_status.specs.Nodes.{AtEachNode, HasShortList}
 use Rattle.halo_status.specs.Pay.{PlainPay}
 use Rattle.halo_status.specs.Tree as status
 use Rattle.halo_status.specs.Tree.{Tree, Trees}
-use Rattle.halo_status.specs.ValidPay.{CanBeMarked, HasValidVary, IsValidPay}
+use Rattle.halo_status.specs.ValidPay.{CanBeMarked, HasValidVary}
 use Rattle.halo_status.specs.declared.pay.Kind.{Kind}
 use Rattle.halo_status.specs.declared.pay.Kind.TheVariants.{Insurance}
 use Rattle.halo_status.specs.declared.pay.Mark.{Mark}
@@ -18,7 +16,6 @@ use Rattle.halo_status.specs.declared.pay.Vary.TheVariants as paid
 use Rattle.halo_symbol.specs.Nesting.{nest_body}
 use Rattle.halo_symbol.specs.Proper.{IsPlainName}
 use Rattle.halo_symbol.specs.StatusOf.{tree_of_content}
-use Rattle.halo_symbol.specs.Symbol as written
 use Rattle.halo_parse.specs.Checks.{AreDifferent}
 use Rattle.halo_contract.specs.ValidContract.{IsValidAmong}
 use Rattle.halo_parse.specs.Draft.{causes_of, defer_of, mark_of, mask_of_names, pay_written, place_of, vary_of}
@@ -30,8 +27,7 @@ use Rattle.halo_spell.proofs.PartsBack.{IsFitBody}
 
 -- a pay that its canonical symbol writes again, where the lives and the causes have these names
 pub record IsSpelledPay (lives causes : List (List ℕ)) (pay : PlainPay) : Type 0 where
-  pub among : IsValidAmong (length lives) pay
-  pub causes_in : IfSome pay.causes (λ mask. mask < 2 ^ length causes)
+  pub among : IsValidAmong (length lives) (length causes) pay
   pub causes_plain : IfSome pay.causes (λ mask. All IsPlainName (names_in causes mask))
   pub fit : IsFitBody (length lives) pay.body
   pub content : tree_of_content (place_of lives) (option_map canonical_mark pay.mark) (canonical_body lives pay.body) ≡ pay.body
@@ -77,7 +73,7 @@ pay_back lives causes pay different is =
       number-decimal pay.amount (omega (arith, valid.amount_in)),
       vary_back pay.vary valid.vary,
       defer_back pay.defer valid.defer_in,
-      causes_back causes pay.kind different pay.causes valid.causes is.causes_in,
+      causes_back causes pay.kind different pay.causes valid.causes is.among.by_cause,
       mark_back pay.mark low,
       is.content,
     ) refl

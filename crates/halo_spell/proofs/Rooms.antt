@@ -1,5 +1,5 @@
 -- The round brackets of a line's text open no further than they nest in its symbol or status.
-use Rattle.std.proofs.Common.{◌≡◌, ◌≢◌, ℕ, zero, suc, ◌+◌, ◌-◌, ◌<◌, ◌≤◌, ◌==◌, Bool, true, List, [], ◌∷◌, ◌++◌, Option, Some, None, ap, sym, ◌∙◌, subst, refl, arith, cond, length, take, append-nil}
+use Rattle.std.proofs.Common.{◌≡◌, ◌≢◌, ℕ, zero, suc, ◌+◌, ◌≤◌, ◌==◌, Bool, true, List, [], ◌∷◌, ◌++◌, Option, Some, None, ap, subst, refl, arith, cond, length, take, append-nil}
 use Rattle.std.specs.Prelude.{All, IfSome, codes, not, ◌&&◌}
 use Rattle.std.specs.Char.{is_ascii_alphabetic}
 use Rattle.std.specs.List.{filter, join_with_byte, list_all}
@@ -19,7 +19,7 @@ use Rattle.halo_text.specs.Name.{is_name_byte}
 use Rattle.halo_text.specs.Number.{IsDigit, IsNumber}
 use Rattle.halo_lex.specs.Lexeme.{IsLongName}
 use Rattle.halo_parse.specs.Depth.{IsShallow, count_of}
-use Rattle.halo_parse.specs.Line.{LaterRate, Line, fraction_word, interest, life, line_words, pay, premium, rate_words, reserve, ties}
+use Rattle.halo_parse.specs.Line.{LaterRate, Line, fraction_word, interest, life, pay, premium, rate_words, reserve, ties}
 use Rattle.halo_parse.specs.LineReading.{nest_line}
 use Rattle.halo_parse.specs.ProperLine.{IsProperLine, IsProperRate}
 use Rattle.halo_contract.specs.declared.ties.Ties.TheVariants as rule

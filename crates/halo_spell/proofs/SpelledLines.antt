@@ -1,5 +1,5 @@
 -- What a line adds that passes all checks can be written again.
-use Rattle.std.proofs.Common.{◌≡◌, ℕ, ◌≤◌, ◌<◌, ◌^◌, List, Option, Some, None, length, map, ap, refl, arith, inl, inr}
+use Rattle.std.proofs.Common.{◌≡◌, ℕ, ◌≤◌, ◌<◌, List, Option, Some, None, length, ap, refl, arith, inl, inr}
 use Rattle.std.specs.Prelude.{All, IfSome, true}
 use Rattle.std.specs.Option.{option_map}
 use Rattle.std.proofs.lemmas.List.{length-map}
@@ -8,7 +8,7 @@ use Rattle.halo_status.specs.Naming.{NamesLivesBelow}
 use Rattle.halo_status.specs.Nodes.{AtEachNode, HasShortList}
 use Rattle.halo_status.specs.Tree as status
 use Rattle.halo_status.specs.Tree.{Tree}
-use Rattle.halo_status.specs.ValidPay.{HasLength, HasRank}
+use Rattle.halo_status.specs.ValidPay.{HasLength, HasRank, IsValidPay}
 use Rattle.halo_status.specs.Exists.{exists}
 use Rattle.halo_status.specs.View.{is_on}
 use Rattle.halo_status.specs.declared.view.View.TheVariants.{Due}
@@ -21,14 +21,12 @@ use Rattle.halo_symbol.specs.Symbol.{Names, Symbol}
 use Rattle.halo_symbol.specs.Tree.{Body, list, reversion}
 use Rattle.halo_table.specs.DecrementTable.{TableFile}
 use Rattle.halo_parse.specs.Checks.{AreDifferent, PassesAll, status_tree}
-use Rattle.halo_contract.specs.ValidContract.{IsValidAmong}
-use Rattle.halo_parse.specs.Draft.{Draft, all_names, causes_of, is_among, mark_of, pay_written, place_of}
+use Rattle.halo_parse.specs.Draft.{Draft, all_names, causes_of, mark_of, pay_written, place_of}
 use Rattle.halo_contract.specs.PlainContract.{life_names}
 use Rattle.halo_parse.specs.Limits.{IsShortName}
 use Rattle.halo_parse.specs.Line.{pay, premium}
 use Rattle.halo_contract.specs.declared.contract.LifeLine.{LifeLine}
 use Rattle.halo_parse.specs.ProperLine.{IsProperLine}
-use Rattle.halo_sums.proofs.SetMasks.{mask_of-lt}
 use Rattle.halo_parse.proofs.ValidPays.{pays_are_valid, premiums_are_valid}
 use Rattle.halo_spell.specs.Canonical.{canonical_body, canonical_mark, name_at, names_in}
 use Rattle.halo_spell.proofs.FitTrees.{IsFit, fit, fit_in}
@@ -38,18 +36,13 @@ use Rattle.halo_spell.proofs.PaysBack.{IsSpelledPay}
 use Rattle.halo_spell.proofs.TreesBack.{body_back, members_back}
 use Rattle.halo_spell.proofs.WrittenTrees.{nest-canonical_body, nest-canonical_content, two-body, two-members}
 
--- the names of the lives of a draft: names of at most 32 bytes, other than `bar`, no two equal
-pub record IsNamed (d : Draft) : Type 0 where
-  pub plain : All IsPlainName (life_names d.lives)
-  pub short : All IsShortName (life_names d.lives)
-  pub different : AreDifferent (life_names d.lives)
+-- names of lives: names of at most 32 bytes, other than `bar`, no two equal
+pub record IsNamed (names : List (List ℕ)) : Type 0 where
+  pub plain : All IsPlainName names
+  pub short : All IsShortName names
+  pub different : AreDifferent names
 
--- the causes of a set
-causes_in : (causes : List (List ℕ)) (set : Option Names) → IfSome (causes_of causes set) (λ mask. mask < 2 ^ length causes)
-causes_in causes None = tt
-causes_in causes (Some names) =
-    let among = is_among (all_names names) in omega (arith, mask_of-lt (map among causes), ap (λ n. 2 ^ n) (length-map causes among))
-
+-- the names of a set of causes
 causes_plain : (causes : List (List ℕ)) (set : Option Names) → IfSome set AreProperNames → IfSome (causes_of causes set) (λ mask. All IsPlainName (names_in causes mask))
 causes_plain causes None proper = tt
 causes_plain causes (Some names) proper = All-names_of_mask IsPlainName causes (all_names names) (All-cons IsPlainName names.first names.others proper.0 proper.1)
@@ -80,7 +73,7 @@ count_of_names : (d : Draft) → length (life_names d.lives) ≡ length d.lives
 count_of_names d = length-map d.lives (λ (line : LifeLine). line.name)
 
 -- a pay
-pub spelled_pay : (tables : TableFile) (d : Draft) (amount : List ℕ) (s : Symbol) → IsNamed d → IsProperLine (pay amount s) → PassesAll tables d (pay amount s) → nest_body s.body ≤ 16
+pub spelled_pay : (tables : TableFile) (d : Draft) (amount : List ℕ) (s : Symbol) → IsNamed (life_names d.lives) → IsProperLine (pay amount s) → PassesAll tables d (pay amount s) → nest_body s.body ≤ 16
     → IsSpelledPay (life_names d.lives) tables.causes (pay_written (life_names d.lives) tables.causes amount s)
 spelled_pay tables d amount s named proper passes deep =
     let names = life_names d.lives in
@@ -88,7 +81,6 @@ spelled_pay tables d amount s named proper passes deep =
     let both = fit_content names named.different s.mark s.body among.named among.valid.lengths among.valid.lists among.valid.ranks in
     record {
       among = among;
-      causes_in = causes_in tables.causes s.causes;
       causes_plain = causes_plain tables.causes s.causes proper.1.causes;
       fit = both.0;
       content = both.1;
@@ -97,21 +89,22 @@ spelled_pay tables d amount s named proper passes deep =
 
 -- the status of a premium
 pub record IsSpelledStatus (names : List (List ℕ)) (s : Tree) : Type 0 where
-  pub among : IsValidAmong (length names) (premium_pay s)
+  pub valid : IsValidPay (premium_pay s)
   pub at_start : exists all_lives (is_on Due 0) s ≡ true
   pub fit : IsFitBody (length names) s
   pub content : tree_of_body (place_of names) (canonical_body names s) ≡ s
   pub depth : nest_body (canonical_body names s) ≤ 16
 
-pub spelled_status : (tables : TableFile) (d : Draft) (body : Body) → IsNamed d → IsProperLine (premium body) → PassesAll tables d (premium body) → nest_body body ≤ 16
+pub spelled_status : (tables : TableFile) (d : Draft) (body : Body) → IsNamed (life_names d.lives) → IsProperLine (premium body) → PassesAll tables d (premium body) → nest_body body ≤ 16
     → IsSpelledStatus (life_names d.lives) (status_tree d body)
 spelled_status tables d body named proper passes deep =
     let names = life_names d.lives in
     let premium = premiums_are_valid tables d body proper passes in
-    let among = rw (← count_of_names d) at premium.valid in
-    let f = fit_body names named.different body among.named among.valid.lengths among.valid.lists among.valid.ranks in
+    let valid = premium.among.valid in
+    let below = rw (← count_of_names d) at premium.among.named in
+    let f = fit_body names named.different body below valid.lengths valid.lists valid.ranks in
     record {
-      among = among;
+      valid = valid;
       at_start = premium.at_start;
       fit = inl f;
       content = body_back (place_of names) names (length names) (back names named.different) (status_tree d body) f;

@@ -1,11 +1,10 @@
 -- The canonical tree of a status means the status again.
-use Rattle.std.proofs.Common.{◌≡◌, ℕ, ◌+◌, ◌≤◌, ◌<◌, ◌^◌, List, length, ap, ap₂, sym, ◌∙◌, refl, arith}
-use Rattle.std.specs.Fmt.{decimal}
+use Rattle.std.proofs.Common.{◌≡◌, ℕ, ◌≤◌, ◌<◌, List, ap, ap₂, ◌∙◌, refl, arith}
 use Rattle.halo_status.specs.Nodes.{AtEachNode, AtEachNodeIn}
 use Rattle.halo_status.specs.Tree as status
 use Rattle.halo_status.specs.Tree.{Tree, Trees}
 use Rattle.halo_symbol.specs.StatusOf.{tree_of_body, tree_of_list, tree_of_node, trees_of_members}
-use Rattle.halo_symbol.specs.Tree.{Node, life, term, last, at_least, exactly, group, Members, one, and, Body, list, reversion}
+use Rattle.halo_symbol.specs.Tree.{Node, life, term, last, at_least, exactly, group, Members, one, and, list, reversion}
 use Rattle.halo_spell.specs.Canonical.{body_of, canonical_body, canonical_members, canonical_node, canonical_row, list_of, name_at}
 use Rattle.halo_spell.proofs.FitTrees.{IsFit}
 use Rattle.halo_spell.proofs.NumbersBack.{number-decimal}

@@ -1,6 +1,6 @@
 -- The words of a line's text are the line's words, and the lines of a contract's text are its lines.
-use Rattle.std.proofs.Common.{◌≡◌, ◌≢◌, ℕ, ◌+◌, ◌≤◌, ◌<◌, ◌==◌, List, [], ◌∷◌, ◌++◌, append_assoc, Bool, true, false, length, length-append, map, ap, ap₂, sym, ◌∙◌, refl, arith}
-use Rattle.std.specs.Prelude.{All, codes, flat_map, not, ◌&&◌}
+use Rattle.std.proofs.Common.{◌≡◌, ◌≢◌, ℕ, ◌<◌, ◌==◌, List, [], ◌∷◌, ◌++◌, append_assoc, Bool, true, false, length, length-append, map, ap, ap₂, ◌∙◌, refl, arith}
+use Rattle.std.specs.Prelude.{All, codes, not, ◌&&◌}
 use Rattle.std.specs.Char.{is_ascii_alphabetic}
 use Rattle.std.specs.List.{filter, join_with_byte, list_all, slice_split}
 use Rattle.std.proofs.lemmas.Bool.{ne_eqb}

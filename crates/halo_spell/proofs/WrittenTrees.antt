@@ -1,13 +1,12 @@
 -- What holds of the status that a body means: its joint statuses have two members or more, and its canonical tree has no more
 -- brackets in one another than the body.
-use Rattle.std.proofs.Common.{◌≡◌, ℕ, suc, ◌+◌, ◌≤◌, max, List, Option, Some, None, arith}
+use Rattle.std.proofs.Common.{ℕ, suc, ◌≤◌, max, List, Option, Some, None, arith}
 use Rattle.halo_status.specs.Nodes.{AtEachNode, AtEachNodeIn}
 use Rattle.halo_status.specs.Tree as status
 use Rattle.halo_symbol.specs.Nesting.{nest, nest_body, nest_members}
 use Rattle.halo_symbol.specs.StatusOf.{tree_of_body, tree_of_content, tree_of_list, tree_of_node, trees_of_members}
 use Rattle.halo_symbol.specs.Symbol.{Mark}
-use Rattle.halo_symbol.specs.Tree.{Node, life, term, last, at_least, exactly, group, Members, one, and, Body, list, reversion, member_count}
-use Rattle.halo_parse.proofs.ShortLists.{member_count-trees}
+use Rattle.halo_symbol.specs.Tree.{Node, life, term, last, at_least, exactly, group, Members, one, and, Body, list, reversion}
 use Rattle.halo_spell.specs.Canonical.{body_of, canonical_body, canonical_members, canonical_node, canonical_row, list_of}
 use Rattle.halo_spell.proofs.FitTrees.{IsJointOfTwo}
 

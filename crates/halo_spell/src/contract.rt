@@ -1,6 +1,7 @@
 // Contracts.
 ghost use Rattle.std.specs.Prelude.{◌≡◌, IfOk};
-ghost use Rattle.halo_spell.specs.ContractText.{contract_of, contract_text};
+ghost use Rattle.halo_contract.specs.PlainContract.{contract_of};
+ghost use Rattle.halo_spell.specs.ContractText.{contract_text};
 ghost use Rattle.halo_spell.specs.Spellable.{IsSpellable};
 
 use crate::Memory;
@@ -19,7 +20,8 @@ pub fn spell_contract(
     tables: &Tables,
 ) -> Result<Vec<u8>, Memory>
     requires { IsSpellable tables.now (contract_of contract.now) }
-    ensures { IfOk result (λ text. text.items ≡ contract_text tables.now (contract_of contract.now)) }
+    ensures { IfOk result (λ text.
+        text.items ≡ contract_text tables.now (contract_of contract.now)) }
 {
     let mut text = Vec::new(alloc);
     write_interest(&contract.interest, &mut text)?;

@@ -1,5 +1,5 @@
 // The line of an interest.
-ghost use Rattle.std.specs.Prelude.{◌≡◌, ◌++◌, ◌<◌, OnOk, Some, length};
+ghost use Rattle.std.specs.Prelude.{◌≡◌, ◌++◌, ◌<◌, OnOk, length};
 ghost use Rattle.std.specs.Fmt.{decimal};
 ghost use Rattle.halo_interest.specs.Rates.{rate_at};
 ghost use Rattle.halo_parse.specs.Line.{fraction_word};
@@ -12,7 +12,8 @@ use halo_interest::Interest;
 
 /// Writes the line of an interest behind a text. Its fractions are neither reduced nor merged.
 pub fn write_interest(interest: &Interest, into: &mut Vec<u8>) -> Result<(), Memory>
-    ensures { OnOk result (into.new.items ≡ into.old.items ++ lines_text (interest_lines (Some interest.now))) }
+    ensures { OnOk result (into.new.items ≡ into.old.items
+        ++ lines_text (interest_lines interest.now)) }
 {
     let count = interest.fractions();
     let (_, p, q) = interest.fraction(0);
@@ -27,7 +28,8 @@ pub fn write_interest(interest: &Interest, into: &mut Vec<u8>) -> Result<(), Mem
 // Writes the year of the fraction at a place and that fraction, a space before each.
 fn write_rate(interest: &Interest, place: u8, into: &mut Vec<u8>) -> Result<(), Memory>
     requires { place < length interest.now }
-    ensures { OnOk result (into.new.items ≡ into.old.items ++ rate_text (rate_at interest.now place)) }
+    ensures { OnOk result (into.new.items ≡ into.old.items
+        ++ rate_text (rate_at interest.now place)) }
 {
     let (year, p, q) = interest.fraction(place);
     write_bytes(b" ", into)?;
@@ -38,7 +40,8 @@ fn write_rate(interest: &Interest, place: u8, into: &mut Vec<u8>) -> Result<(), 
 
 // Writes a fraction P/Q.
 fn write_fraction(p: u64, q: u64, into: &mut Vec<u8>) -> Result<(), Memory>
-    ensures { OnOk result (into.new.items ≡ into.old.items ++ fraction_word (decimal p) (decimal q)) }
+    ensures { OnOk result (into.new.items ≡ into.old.items
+        ++ fraction_word (decimal p) (decimal q)) }
 {
     write_number(p, into)?;
     write_bytes(b"/", into)?;

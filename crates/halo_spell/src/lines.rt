@@ -5,10 +5,10 @@ ghost use Rattle.halo_status.specs.Naming.{NamesLivesBelow};
 ghost use Rattle.halo_status.specs.Pay.{pay_of};
 ghost use Rattle.halo_status.specs.StatusTree.{tree_of};
 ghost use Rattle.halo_contract.specs.PlainContract.{life_names};
+ghost use Rattle.halo_contract.specs.ValidContract.{IsValidAmong};
 ghost use Rattle.halo_spell.specs.Canonical.{names_in};
 ghost use Rattle.halo_spell.specs.ContractText.{life_line, line_text, lines_text, pay_line, premium_line, reserve_line, ties_lines};
 ghost use Rattle.halo_spell.specs.LineText.{names_text};
-ghost use Rattle.halo_spell.specs.Spellable.{IsSpellablePay};
 
 use crate::Memory;
 use crate::status::{Position, write_status};
@@ -21,7 +21,8 @@ use halo_table::Tables;
 /// Writes the lines of some lives behind a text. Each has a table of these tables.
 pub fn write_lives(lives: &[LifeLine], tables: &Tables, into: &mut Vec<u8>) -> Result<(), Memory>
     requires { All (λ declared. declared.life.table < length tables.now.tables) lives.now }
-    ensures { OnOk result (into.new.items ≡ into.old.items ++ lines_text (map (life_line tables.now) lives.now)) }
+    ensures { OnOk result (into.new.items ≡ into.old.items
+        ++ lines_text (map (life_line tables.now) lives.now)) }
 {
     for declared in lives {
         write_life(declared, tables, into)?;
@@ -32,7 +33,8 @@ pub fn write_lives(lives: &[LifeLine], tables: &Tables, into: &mut Vec<u8>) -> R
 // Writes the line of a life.
 fn write_life(declared: &LifeLine, tables: &Tables, into: &mut Vec<u8>) -> Result<(), Memory>
     requires { declared.now.life.table < length tables.now.tables }
-    ensures { OnOk result (into.new.items ≡ into.old.items ++ (line_text (life_line tables.now declared.now) ++ codes "\n")) }
+    ensures { OnOk result (into.new.items ≡ into.old.items
+        ++ (line_text (life_line tables.now declared.now) ++ codes "\n")) }
 {
     write_bytes(b"life ", into)?;
     write_bytes(declared.name.bytes(), into)?;
@@ -60,9 +62,11 @@ pub fn write_pays(
     tables: &Tables,
     into: &mut Vec<u8>,
 ) -> Result<(), Memory>
-    requires { All (IsSpellablePay (length lives.now) (length tables.now.causes)) (map pay_of pays.now) }
+    requires { All (IsValidAmong (length lives.now) (length tables.now.causes))
+        (map pay_of pays.now) }
     ensures { OnOk result (into.new.items ≡ into.old.items
-        ++ lines_text (map (pay_line (life_names lives.now) tables.now.causes) (map pay_of pays.now))) }
+        ++ lines_text (map (pay_line (life_names lives.now) tables.now.causes)
+        (map pay_of pays.now))) }
 {
     for pay in pays {
         write_pay(pay, lives, tables, into)?;
@@ -77,9 +81,10 @@ fn write_pay(
     tables: &Tables,
     into: &mut Vec<u8>,
 ) -> Result<(), Memory>
-    requires { IsSpellablePay (length lives.now) (length tables.now.causes) (pay_of pay.now) }
+    requires { IsValidAmong (length lives.now) (length tables.now.causes) (pay_of pay.now) }
     ensures { OnOk result (into.new.items ≡ into.old.items
-        ++ (line_text (pay_line (life_names lives.now) tables.now.causes (pay_of pay.now)) ++ codes "\n")) }
+        ++ (line_text (pay_line (life_names lives.now) tables.now.causes (pay_of pay.now))
+        ++ codes "\n")) }
 {
     write_bytes(b"pay ", into)?;
     write_number(pay.amount, into)?;
@@ -96,7 +101,8 @@ pub fn write_premium(
 ) -> Result<(), Memory>
     requires { IfSome premium.now (λ pay. NamesLivesBelow (length lives.now) (tree_of pay.body)) }
     ensures { OnOk result (into.new.items ≡ into.old.items
-        ++ lines_text (map (premium_line (life_names lives.now)) (option_to_list (option_map pay_of premium.now)))) }
+        ++ lines_text (map (premium_line (life_names lives.now))
+        (option_to_list (option_map pay_of premium.now)))) }
 {
     let Some(pay) = premium else {
         return Ok(());
@@ -138,7 +144,8 @@ fn write_reserve(
 
 // Writes the names of the lives of a set in the declared order, a space before each.
 fn write_names(alive: u16, lives: &[LifeLine], into: &mut Vec<u8>) -> Result<(), Memory>
-    ensures { OnOk result (into.new.items ≡ into.old.items ++ names_text (names_in (life_names lives.now) alive)) }
+    ensures { OnOk result (into.new.items ≡ into.old.items
+        ++ names_text (names_in (life_names lives.now) alive)) }
 {
     let mut left = alive;
     for declared in lives {

@@ -2,8 +2,8 @@
 ghost use Rattle.std.specs.Prelude.{◌≡◌, ◌++◌, OnErr, OnOk, length};
 ghost use Rattle.halo_status.specs.Pay.{pay_of};
 ghost use Rattle.halo_contract.specs.PlainContract.{life_names};
+ghost use Rattle.halo_contract.specs.ValidContract.{IsValidAmong};
 ghost use Rattle.halo_spell.specs.ContractText.{pay_text};
-ghost use Rattle.halo_spell.specs.Spellable.{IsSpellablePay};
 
 use crate::Memory;
 use crate::symbol::write_symbol;
@@ -20,8 +20,9 @@ pub fn spell_pay(
     tables: &Tables,
     into: &mut Vec<u8>,
 ) -> Result<(), Memory>
-    requires { IsSpellablePay (length lives.now) (length tables.now.causes) (pay_of pay.now) }
-    ensures written { OnOk result (into.new.items ≡ into.old.items ++ pay_text (life_names lives.now) tables.now.causes (pay_of pay.now)) }
+    requires { IsValidAmong (length lives.now) (length tables.now.causes) (pay_of pay.now) }
+    ensures written { OnOk result (into.new.items ≡ into.old.items
+        ++ pay_text (life_names lives.now) tables.now.causes (pay_of pay.now)) }
     ensures unchanged { OnErr result (into.new.items ≡ into.old.items) }
 {
     let mut symbol = Vec::new(*into.allocator());

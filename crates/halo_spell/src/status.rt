@@ -36,7 +36,8 @@ pub fn write_status(
     into: &mut Vec<u8>,
 ) -> Result<(), Memory>
     requires { NamesLivesBelow (length lives.now) (tree_of status.now) }
-    ensures { OnOk result (into.new.items ≡ into.old.items ++ bytes_at position (life_names lives.now) (tree_of status.now)) }
+    ensures { OnOk result (into.new.items ≡ into.old.items
+        ++ bytes_at position (life_names lives.now) (tree_of status.now)) }
 {
     match status {
         Status::Life(i) => write_bytes(lives[usize::from(*i)].name.bytes(), into),
@@ -87,7 +88,8 @@ fn write_reversion(
     requires first { NamesLivesBelow (length lives.now) (tree_of first.now) }
     requires then { NamesLivesBelow (length lives.now) (tree_of then.now) }
     ensures { OnOk result (into.new.items ≡ into.old.items
-        ++ body_bytes (written.reversion (list_of (canonical_node (life_names lives.now) (tree_of first.now)))
+        ++ body_bytes (written.reversion
+        (list_of (canonical_node (life_names lives.now) (tree_of first.now)))
         (list_of (canonical_node (life_names lives.now) (tree_of then.now)))) []) }
 {
     write_status(first, Position::Side, lives, into)?;
@@ -101,7 +103,9 @@ fn write_reversion(
 fn write_bracketed(members: &Members, lives: &[LifeLine], into: &mut Vec<u8>) -> Result<(), Memory>
     requires { AnyNamesLivesBelow (length lives.now) (trees_in members.now) }
     ensures { OnOk result (into.new.items ≡ into.old.items
-        ++ (round_open ∷ (body_bytes (written.list (canonical_members (life_names lives.now) (trees_in members.now))) [] ++ round_close ∷ []))) }
+        ++ (round_open ∷ (body_bytes (written.list
+        (canonical_members (life_names lives.now) (trees_in members.now))) []
+        ++ round_close ∷ []))) }
 {
     into.push(b'(')?;
     write_members(members, None, lives, into)?;
@@ -119,7 +123,8 @@ pub fn write_members(
 ) -> Result<(), Memory>
     requires { AnyNamesLivesBelow (length lives.now) (trees_in members.now) }
     ensures { OnOk result (into.new.items ≡ into.old.items
-        ++ content_bytes (option_map canonical_mark mark) (written.list (canonical_members (life_names lives.now) (trees_in members.now))) []) }
+        ++ content_bytes (option_map canonical_mark mark)
+        (written.list (canonical_members (life_names lives.now) (trees_in members.now))) []) }
 {
     for place in 0..members.len() {
         write_separator_at(place, into)?;

@@ -5,9 +5,9 @@ ghost use Rattle.halo_status.specs.Naming.{NamesLivesBelow};
 ghost use Rattle.halo_status.specs.Pay.{pay_of};
 ghost use Rattle.halo_symbol.specs.Bytes.{causes_bytes, content_bytes, defer_bytes, head_text, kind_text};
 ghost use Rattle.halo_contract.specs.PlainContract.{life_names};
+ghost use Rattle.halo_contract.specs.ValidContract.{IsValidAmong};
 ghost use Rattle.halo_spell.specs.Canonical.{canonical_body, canonical_defer, canonical_mark, canonical_vary, names_in, set_of};
 ghost use Rattle.halo_spell.specs.ContractText.{pay_text};
-ghost use Rattle.halo_spell.specs.Spellable.{IsSpellablePay};
 ghost use Rattle.halo_status.specs.StatusTree.{tree_of};
 ghost use Rattle.halo_status.specs.ValidPay.{CanBeMarked};
 
@@ -25,8 +25,9 @@ pub fn write_symbol(
     tables: &Tables,
     into: &mut Vec<u8>,
 ) -> Result<(), Memory>
-    requires { IsSpellablePay (length lives.now) (length tables.now.causes) (pay_of pay.now) }
-    ensures { OnOk result (into.new.items ≡ into.old.items ++ pay_text (life_names lives.now) tables.now.causes (pay_of pay.now)) }
+    requires { IsValidAmong (length lives.now) (length tables.now.causes) (pay_of pay.now) }
+    ensures { OnOk result (into.new.items ≡ into.old.items
+        ++ pay_text (life_names lives.now) tables.now.causes (pay_of pay.now)) }
 {
     write_defer(pay.defer, into)?;
     write_head(pay.vary, pay.kind, into)?;
@@ -39,7 +40,8 @@ pub fn write_symbol(
 
 // Writes a deferral, where there is one.
 fn write_defer(years: u16, into: &mut Vec<u8>) -> Result<(), Memory>
-    ensures { OnOk result (into.new.items ≡ into.old.items ++ defer_bytes (canonical_defer years) []) }
+    ensures { OnOk result (into.new.items ≡ into.old.items
+        ++ defer_bytes (canonical_defer years) []) }
 {
     if years == 0 {
         return Ok(());
@@ -50,7 +52,8 @@ fn write_defer(years: u16, into: &mut Vec<u8>) -> Result<(), Memory>
 
 // Writes a head: how the payments vary, and the kind.
 fn write_head(vary: Vary, kind: Kind, into: &mut Vec<u8>) -> Result<(), Memory>
-    ensures { OnOk result (into.new.items ≡ into.old.items ++ head_text (canonical_vary vary) kind) }
+    ensures { OnOk result (into.new.items ≡ into.old.items
+        ++ head_text (canonical_vary vary) kind) }
 {
     match vary {
         Vary::Level => {}
@@ -80,7 +83,8 @@ fn write_causes(causes: Option<u8>, tables: &Tables, into: &mut Vec<u8>) -> Resu
     requires some { IfSome causes (λ mask. 1 ≤ mask) }
     requires known { IfSome causes (λ mask. mask < 2 ^ length tables.now.causes) }
     ensures { OnOk result (into.new.items ≡ into.old.items
-        ++ causes_bytes (option_and_then (λ mask. set_of (names_in tables.now.causes mask)) causes) []) }
+        ++ causes_bytes
+        (option_and_then (λ mask. set_of (names_in tables.now.causes mask)) causes) []) }
 {
     let Some(mask) = causes else {
         return Ok(());
@@ -102,7 +106,8 @@ fn write_content(pay: &Pay, lives: &[LifeLine], into: &mut Vec<u8>) -> Result<()
     requires lives { NamesLivesBelow (length lives.now) (tree_of pay.now.body) }
     requires mark { IfSome pay.now.mark (CanBeMarked (tree_of pay.now.body)) }
     ensures { OnOk result (into.new.items ≡ into.old.items
-        ++ content_bytes (option_map canonical_mark pay.now.mark) (canonical_body (life_names lives.now) (tree_of pay.now.body)) []) }
+        ++ content_bytes (option_map canonical_mark pay.now.mark)
+        (canonical_body (life_names lives.now) (tree_of pay.now.body)) []) }
 {
     match &pay.body {
         Status::Joint(members) => write_members(members, pay.mark, lives, into),

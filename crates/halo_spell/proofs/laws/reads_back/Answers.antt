@@ -1,5 +1,5 @@
-use Rattle.halo_spell.proofs.ReadsBack.{reads_back, same_contract}
+use Rattle.halo_spell.proofs.ReadsBack.{reads_back}
 use Rattle.halo_spell.proofs.laws.reads_back.Goals as goal
 
 pub returns : goal.returns
-returns c = λ tables bytes contract sound writes. record { writes = reads_back tables sound bytes contract writes; same = same_contract contract }
+returns c = λ tables bytes contract sound writes. reads_back tables sound bytes contract writes
