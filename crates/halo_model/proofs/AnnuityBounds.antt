@@ -10,8 +10,6 @@ use Rattle.halo_sums.specs.Sums.{indicator, numbers_from, product_over, sum_over
 use Rattle.halo_sums.specs.Sets.{sets}
 use Rattle.halo_sums.proofs.Integers.{mul_assoc, pos_injective, pos_mul}
 use Rattle.halo_sums.proofs.IntSums.{int_sum_over-ext, int_sum_over-none, int_sum_over-pos}
-use Rattle.halo_sums.proofs.Sums.{product_over-append}
-use Rattle.halo_sums.proofs.Numbers.{numbers_from-add}
 use Rattle.halo_status.specs.Exists.{exists}
 use Rattle.halo_status.specs.Nodes.{HasPositiveRanks, HasShortLists}
 use Rattle.halo_status.specs.Pay.{PlainPay}
@@ -37,6 +35,7 @@ use Rattle.halo_model.proofs.AfterHorizon.{nothing-after-horizon}
 use Rattle.halo_model.proofs.Annuities.{exists-weight}
 use Rattle.halo_model.proofs.Backward.{all-there, annuity-by-times, discounted-now, may-not-before, sets-ext, time_part}
 use Rattle.halo_status.proofs.Agreement.{agree}
+use Rattle.halo_model.proofs.Discounts.{accumulated-from}
 use Rattle.halo_model.proofs.Expected.{Comes, expected-where}
 use Rattle.halo_model.proofs.Weights.{weights-add}
 
@@ -61,15 +60,7 @@ discount-le p q (suc count) first = mul-le _ _ _ _ (omega arith) (discount-le p 
 
 discounted-le : (b : Basis) (T t : ℕ) → T ≤ t → t ≤ b.last_time → discounted b T t ≤ accumulated b T
 discounted-le b T t from before =
-    let split : b.last_time - T ≡ (t - T) + (b.last_time - t) = omega arith in
-    let there : T + (t - T) ≡ t = omega arith in
-    let all : accumulated b T ≡ product_over (numbers_from T (t - T)) (λ k. b.p k + b.q k) * accumulated b t =
-    ap (λ (n : ℕ). product_over (numbers_from T n) (λ k. b.p k + b.q k)) split
-    ∙ ap (λ ks. product_over ks (λ k. b.p k + b.q k)) (numbers_from-add (t - T) (b.last_time - t) T)
-    ∙ product_over-append (numbers_from T (t - T)) (numbers_from (T + (t - T)) (b.last_time - t)) (λ k. b.p k + b.q k)
-    ∙ ap (λ (k : ℕ). product_over (numbers_from T (t - T))
-    (λ k. b.p k + b.q k) * product_over (numbers_from k (b.last_time - t)) (λ k. b.p k + b.q k)) there in
-    rw all (mul-le-mul_right (accumulated b t) (discount-le b.p b.q (t - T) T))
+    rw (accumulated-from b T t from before) (mul-le-mul_right (accumulated b t) (discount-le b.p b.q (t - T) T))
 
 may-from : (kind : Kind) (defer T t : ℕ) → may_pay kind defer T t ≡ true → T ≤ t
 may-from Insurance defer T t e = absurd (cc)

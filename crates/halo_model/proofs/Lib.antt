@@ -67,3 +67,4 @@ pub mod WorkedMoments
 pub mod RunParts
 pub mod Unnamed
 pub mod Positive
+pub mod LastTime

@@ -6,7 +6,7 @@ use Rattle.halo_sums.specs.Sums.{indicator}
 use Rattle.halo_sums.proofs.IntSums.{int_sum_over-ext}
 use Rattle.halo_status.specs.Tree.{Tree, Trees, life, term, joint, last, at_least, exactly, after, none, more, member_at}
 use Rattle.halo_status.specs.Exists.{each_exists, exists}
-use Rattle.halo_status.specs.Naming.{any_names_term, names_life, names_term}
+use Rattle.halo_status.specs.Naming.{any_names_life, any_names_term, names_life, names_term}
 use Rattle.halo_status.specs.Pay.{PlainPay}
 use Rattle.halo_status.specs.declared.pay.Mark.{Mark}
 use Rattle.halo_model.specs.Life.{PlainLife}
@@ -49,7 +49,7 @@ part-stays alive still_alive on still_on (Some m) body h = at_member (member_at 
       ← h s e,
     ) (goes-on (exists alive on s) _)
 
-not-paid : (pay : PlainPay) (rank : ℕ → ℕ) (T : ℕ) (o : Outcome) (event : Event)
+pub not-paid : (pay : PlainPay) (rank : ℕ → ℕ) (T : ℕ) (o : Outcome) (event : Event)
     → ((s : Tree) → failing_part pay.mark pay.body ≡ Some s → exists (lives_before rank o event) (terms_before event) s
     ≡ exists (lives_after rank o event) (terms_after event) s)
     → falls_on pay rank T o event ≡ false
@@ -62,7 +62,7 @@ refused true false f = refl
 refused false t f = refl
 
 -- what does not hold of the part does not hold of it where it is found
-not-of-part : (found : Option Tree) (test : Tree → Bool)
+pub not-of-part : (found : Option Tree) (test : Tree → Bool)
     → holds_of found test ≡ false → (s : Tree) → found ≡ Some s → test s ≡ false
 not-of-part None test e s q = absurd (cc)
 not-of-part (Some t) test e s q = let same : t ≡ s = grind arith in rw (← same) e
@@ -129,3 +129,22 @@ part-unnamed (Some m) (last ms) n e = refl
 part-unnamed (Some m) (at_least r ms) n e = refl
 part-unnamed (Some m) (exactly r ms) n e = refl
 part-unnamed (Some m) (after s t) n e = refl
+
+-- nor one that does not name a life
+member-unnamed_life : (ms : Trees) (a p : ℕ)
+    → any_names_life a ms ≡ false → holds_of (member_at ms p) (names_life a) ≡ false
+member-unnamed_life none a p e = refl
+member-unnamed_life (more s ms) a zero e = (neither (names_life a s) (any_names_life a ms) e).0
+member-unnamed_life (more s ms) a (suc p) e =
+    member-unnamed_life ms a p (neither (names_life a s) (any_names_life a ms) e).1
+
+pub part-unnamed_life : (mark : Option Mark) (body : Tree) (a : ℕ)
+    → names_life a body ≡ false → holds_of (failing_part mark body) (names_life a) ≡ false
+part-unnamed_life None body a e = e
+part-unnamed_life (Some m) (joint ms) a e = member-unnamed_life ms a m.member e
+part-unnamed_life (Some m) (life i) a e = refl
+part-unnamed_life (Some m) (term k) a e = refl
+part-unnamed_life (Some m) (last ms) a e = refl
+part-unnamed_life (Some m) (at_least r ms) a e = refl
+part-unnamed_life (Some m) (exactly r ms) a e = refl
+part-unnamed_life (Some m) (after s t) a e = refl

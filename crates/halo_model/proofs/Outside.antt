@@ -27,10 +27,10 @@ refused true h = absurd (h refl)
 refused false h = refl
 
 -- what a payment on an event tells
-record Allowed (pay : PlainPay) (T : ℕ) (event : Event) : Type 0 where
-  deferred : pay.defer ≤ year_of event
-  started : T ≤ year_of event
-  cause : by_cause pay.causes event ≡ true
+pub record Allowed (pay : PlainPay) (T : ℕ) (event : Event) : Type 0 where
+  pub deferred : pay.defer ≤ year_of event
+  pub started : T ≤ year_of event
+  pub cause : by_cause pay.causes event ≡ true
 
 tested : (m n : ℕ) → nat_le m n ≡ true → m ≤ n
 tested m n h = grind (arith, nat_tests)
@@ -41,7 +41,7 @@ four true true false d e = absurd (cc)
 four true false c d e = absurd (cc)
 four false b c d e = absurd (cc)
 
-allowed : (pay : PlainPay) (rank : ℕ → ℕ) (T : ℕ) (o : Outcome) (event : Event) → falls_on pay rank T o event ≡ true → Allowed pay T event
+pub allowed : (pay : PlainPay) (rank : ℕ → ℕ) (T : ℕ) (o : Outcome) (event : Event) → falls_on pay rank T o event ≡ true → Allowed pay T event
 allowed pay rank T o event e =
     let all = four (nat_le pay.defer (year_of event)) (nat_le T (year_of event)) (by_cause pay.causes event) (fails_by_mark pay.mark pay.body (lives_before rank o event) (terms_before event) (lives_after rank o event) (terms_after event)) e in
     record { deferred = tested _ _ all.0; started = tested _ _ all.1; cause = all.2 }

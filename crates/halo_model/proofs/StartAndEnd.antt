@@ -66,7 +66,7 @@ mutual
       (all-exist s lasting.0 lists.0 ranks.0, each-exist ms lasting.1 lists.1 ranks.1)
 
 mutual
-  asks-for-some : (s : Tree) → AtEachNode HasRank s → HasPositiveRanks s
+  pub asks-for-some : (s : Tree) → AtEachNode HasRank s → HasPositiveRanks s
   asks-for-some (life i) ranks = tt
   asks-for-some (term n) ranks = tt
   asks-for-some (joint ms) ranks = (tt, each-asks ms ranks.1)

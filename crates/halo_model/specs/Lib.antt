@@ -49,3 +49,4 @@ pub mod WorkedMoments
 pub mod RunPart
 pub mod Unnamed
 pub mod PositiveLaws
+pub mod LastTime
