@@ -67,4 +67,5 @@ pub mod WorkedMoments
 pub mod RunParts
 pub mod Unnamed
 pub mod Positive
+pub mod PaidBy
 pub mod LastTime

@@ -55,7 +55,7 @@ some-survive T S (x ∷ lives) have = mul-pos (one (S 0) (have 0 x refl))
     one false survives = omega arith
 
 -- 1 is worth something with the interest of some years
-some-interest : (p q : ℕ → ℕ) (count first : ℕ) → ((k : ℕ) → first ≤ k → k < first + count → 1 ≤ p k + q k)
+pub some-interest : (p q : ℕ → ℕ) (count first : ℕ) → ((k : ℕ) → first ≤ k → k < first + count → 1 ≤ p k + q k)
     → 0 < product_over (numbers_from first count) (λ k. p k + q k)
 some-interest p q zero first each = omega arith
 some-interest p q (suc count) first each = mul-pos (each first (omega arith) (omega arith))
