@@ -69,3 +69,4 @@ pub mod Unnamed
 pub mod Positive
 pub mod PaidBy
 pub mod LastTime
+pub mod PaidInTime

@@ -9,7 +9,7 @@ use Rattle.halo_sums.specs.Sums.{count_true}
 use Rattle.halo_status.specs.Naming.{NamesLivesBelow, any_names_term, names_term}
 use Rattle.halo_status.specs.Nodes.{AsksForSome, AtEachNode, AtEachNodeIn, HasPositiveRanks, HasShortList, HasShortLists, IsLasting, NeverReturns}
 use Rattle.halo_status.specs.Pay.{PlainPay}
-use Rattle.halo_status.specs.ValidPay.{HasLength, HasRank}
+use Rattle.halo_status.specs.ValidPay.{HasLength, HasRank, IsLength}
 use Rattle.halo_status.specs.View.{is_on}
 use Rattle.halo_status.specs.declared.view.View.TheVariants.{Due}
 use Rattle.halo_status.proofs.Empty.{nobody_there}
@@ -86,11 +86,11 @@ either false b e left right = right e
 equal : (m n : ℕ) → nat_eq m n ≡ true → m ≡ n
 equal m n e = grind (arith, nat_tests)
 
--- the terms that a status names have at least a year
+-- the terms that a status names have a length
 mutual
-  term-length : (s : Tree) → AtEachNode HasLength s → (n : ℕ) → names_term n s ≡ true → 1 ≤ n
+  pub term-length : (s : Tree) → AtEachNode HasLength s → (n : ℕ) → names_term n s ≡ true → IsLength n
   term-length (life i) lengths n e = absurd (cc)
-  term-length (term m) lengths n e = rw (equal n m e) lengths.0
+  term-length (term m) lengths n e = rw (equal n m e) lengths
   term-length (joint ms) lengths n e = any-length ms lengths.1 n e
   term-length (last ms) lengths n e = any-length ms lengths.1 n e
   term-length (at_least r ms) lengths n e = any-length ms lengths.1 n e
@@ -98,7 +98,7 @@ mutual
   term-length (after s t) lengths n e =
       either (names_term n s) (names_term n t) e (term-length s lengths.1 n) (term-length t lengths.2 n)
 
-  any-length : (ms : Trees) → AtEachNodeIn HasLength ms → (n : ℕ) → any_names_term n ms ≡ true → 1 ≤ n
+  any-length : (ms : Trees) → AtEachNodeIn HasLength ms → (n : ℕ) → any_names_term n ms ≡ true → IsLength n
   any-length none lengths n e = absurd (cc)
   any-length (more s ms) lengths n e =
       either (names_term n s) (any_names_term n ms) e (term-length s lengths.0 n) (any-length ms lengths.1 n)
@@ -133,7 +133,7 @@ module _ (pay : PlainPay) (is : IsValidInsurance pay)
       → ((i : ℕ) → S i ≡ true) → exists (lives_at 0 o) (is_on Due 0) pay.body ≡ true
   exists-at-start below alive = agree (lives_at 0 o) full_set (is_on Due 0) full_set pay.body
       (λ i e. there-at-start T S lives o comes i (below i e) (alive i))
-      (λ n e. begun n (term-length pay.body is.valid.lengths n e))
+      (λ n e. begun n (term-length pay.body is.valid.lengths n e).0)
       ∙ all-exist pay.body (is.valid.lasting is.kind) is.valid.lists is.valid.ranks
     where
       begun : (n : ℕ) → 1 ≤ n → nat_lt 0 n ≡ true

@@ -3,8 +3,13 @@ use Rattle.std.specs.Prelude.{◌≡◌, ℕ, ◌*◌, ◌≤◌, All, Bool, IfS
 use Rattle.halo_status.specs.Pay.{PlainPay}
 use Rattle.halo_status.specs.Tree.{Tree}
 use Rattle.halo_status.specs.ValidPay.{IsValidPay}
+use Rattle.halo_table.specs.DecrementTable.{TableFile}
+use Rattle.halo_table.specs.Sound.{IsSound}
+use Rattle.halo_contract.specs.PlainContract.{PlainContract}
 use Rattle.halo_contract.specs.Premium.{premium_pay}
+use Rattle.halo_contract.specs.ValidContract.{IsValidContract}
 use Rattle.halo_model.specs.Basis.{Basis}
+use Rattle.halo_model.specs.ContractBasis.{contract_basis, premium_status}
 use Rattle.halo_model.specs.Horizon.{horizon}
 use Rattle.halo_model.specs.Life.{PlainLife}
 use Rattle.halo_model.specs.Premium.{premium_denominator, premium_numerator, reserve_denominator, reserve_numerator}
@@ -48,3 +53,15 @@ LastTimeOfReserve = (b : Basis) (last other : ℕ) (pays : List PlainPay) (premi
     *ℤ pos (reserve_denominator (until other b) premium T S)
     ≡ reserve_numerator (until other b) pays premium T S
     *ℤ pos (reserve_denominator (until last b) premium T S)
+
+-- each pay of a contract, and what its premium pays, is paid by the last time of its basis
+pub record IsPaidInTime (tables : TableFile) (contract : PlainContract) : Type 0 where
+  pub pays : All (IsPaidBy (contract_basis tables contract).last_time
+      (contract_basis tables contract).lives) contract.pays
+  pub premium : PremiumIsPaidBy (contract_basis tables contract).last_time
+      (contract_basis tables contract).lives (premium_status contract)
+
+-- so it is for each contract that can be valued: nothing is left out by its last time
+abbrev pub ContractsArePaidInTime : Type 0
+ContractsArePaidInTime = (tables : TableFile) → IsSound tables
+    → (contract : PlainContract) → IsValidContract tables contract → IsPaidInTime tables contract

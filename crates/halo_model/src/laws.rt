@@ -12,8 +12,8 @@ ghost use Rattle.halo_model.specs.EnclosureLaws.{BenefitsFit, DueFits, NoBenefit
 ghost use Rattle.halo_model.specs.EnclosureLaws.{PremiumOfBenefits};
 ghost use Rattle.halo_model.specs.EnclosureLaws.{ReserveWithPremium, ReserveWithoutPremium};
 ghost use Rattle.halo_model.specs.Horizon.{HorizonIsLeast};
-ghost use Rattle.halo_model.specs.LastTime.{LastTimeDoesNotMatter, LastTimeOfPremium};
-ghost use Rattle.halo_model.specs.LastTime.{LastTimeOfReserve};
+ghost use Rattle.halo_model.specs.LastTime.{ContractsArePaidInTime, LastTimeDoesNotMatter};
+ghost use Rattle.halo_model.specs.LastTime.{LastTimeOfPremium, LastTimeOfReserve};
 ghost use Rattle.halo_model.specs.Laws.{ExpectedByCoefficients, ExpectedBySets};
 ghost use Rattle.halo_model.specs.Laws.{LivesOfTablesKeepTheRule, WeightsAddUp};
 ghost use Rattle.halo_model.specs.Line.{PayHasLine, PremiumHasLine, ReserveHasLine, TotalHasLine};
@@ -182,11 +182,12 @@ pub fn denominators_are_positive()
 
 /// The last time up to which payments are looked at does not matter: a pay is worth the same
 /// fraction with any two last times from its horizon on, since nothing is paid after it. So are the
-/// premium and each reserve.
+/// premium and each reserve. The last time of a contract that can be valued is after all horizons.
 pub fn last_time_does_not_matter()
     ensures value { LastTimeDoesNotMatter }
     ensures premium { LastTimeOfPremium }
     ensures reserve { LastTimeOfReserve }
+    ensures contracts { ContractsArePaidInTime }
 {}
 
 /// The horizon of a status is the least number of years that is at least 1, as many as each life

@@ -1,4 +1,5 @@
 use Rattle.halo_model.proofs.LastTime.{last-time-does-not-matter, last-time-of-premium, last-time-of-reserve}
+use Rattle.halo_model.proofs.PaidInTime.{contracts-are-paid-in-time}
 use Rattle.halo_model.proofs.laws.last_time_does_not_matter.Goals as goal
 
 pub returns-clause-value : goal.returns-clause-value
@@ -9,3 +10,6 @@ returns-clause-premium c = last-time-of-premium
 
 pub returns-clause-reserve : goal.returns-clause-reserve
 returns-clause-reserve c = last-time-of-reserve
+
+pub returns-clause-contracts : goal.returns-clause-contracts
+returns-clause-contracts c = contracts-are-paid-in-time
