@@ -60,6 +60,7 @@ loss pay T s t = paid_at pay T t * below_zero (form pay t s)
 -- alive, who are alive at t. It is what is paid at t, and the value at the next time, discounted
 -- for a year and times the chance to survive the year. It is told in the parts of which 1 has the
 -- survivors of s at t times the interest of all years from t on.
+-- ä_(x+t) = 1 + v · p_(x+t) · ä_(x+t+1)
 abbrev pub backward : Basis → List Bool → (ℕ → ℕ) → ℕ → ℕ → ℕ
 backward b s paid t zero = 0
 backward b s paid t (suc years) =

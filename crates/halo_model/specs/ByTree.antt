@@ -23,6 +23,7 @@ abbrev mutual
 
 abbrev mutual
   -- of the whole, the weight with which a status exists where the terms of the set `on` are on
+  -- p_(x:y) = p_x · p_y, and for the last survivor 1 - (1 - p_x) · (1 - p_y)
   pub weight_of : (ℕ → ℕ) → (ℕ → ℕ) → (ℕ → Bool) → Tree → ℕ
   weight_of n d on (life i) = n i
   weight_of n d on (term m) = cond (on m) 1 0

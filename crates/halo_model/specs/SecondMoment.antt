@@ -26,6 +26,7 @@ HasNoInterest b = (k : ℕ) → (b.p k ≡ 0) × (b.q k ≡ 1)
 
 -- without interest, a level insurance of 1 deferred by k is worth more than that deferred by k + 1
 -- by the weight with which one without a deferral pays for year k
+-- ₖ|A_x - ₖ₊₁|A_x = d_(x+k) / l_x
 abbrev pub level_from : PlainPay → ℕ → PlainPay
 level_from pay k = record pay { amount = 1; vary = Level; defer = k }
 
@@ -45,6 +46,7 @@ second_moment b pay T S = sum_over (taken b) (λ order.
     (λ o. weight b.lives o * squared (outcome_value b pay (rank_in order) T o)))
 
 -- the payment for each year squared, times the weight with which it falls in that year
+-- ²A_x = Σ_k (v^(k+1))² · d_(x+k) / l_x
 abbrev pub SecondMomentByYears : Type 0
 SecondMomentByYears = (b : Basis)
     → EndBy b.last_time b.lives → (pay : PlainPay) → IsValidInsurance pay → (T : ℕ) (S : ℕ → Bool)

@@ -76,6 +76,7 @@ due_for_year pay events rank lives k s =
 
 -- the value at k of what is due at the ends of so many years from k on, cleared of fractions: a
 -- year back, what is due and what comes after are discounted together
+-- A_(x+k) = v · (q_(x+k) + p_(x+k) · A_(x+k+1))
 abbrev pub value_over : Basis → (ℕ → ℤ) → ℕ → ℕ → ℤ
 value_over b due k zero = pos 0
 value_over b due k (suc years) =
