@@ -27,6 +27,7 @@ use Rattle.halo_model.specs.Backward.{above_zero, backward, below_zero, outside}
 use Rattle.halo_model.specs.RunPart.{paid_to_set, run_part, times_of}
 use Rattle.halo_model.proofs.Backward.{survivors-split}
 use Rattle.halo_model.proofs.RunParts.{lies-in-all}
+use Rattle.halo_model.proofs.Positive.{some-interest}
 use Rattle.halo_life.specs.PlainGroup.{IsGroup}
 use Rattle.halo_poly.specs.Poly.{coefficient_at}
 use Rattle.halo_compile.specs.Form.{IsInForm, run_of, segment_at}
@@ -42,7 +43,7 @@ use Rattle.halo_annuity.proofs.Carried.{positive-both, positive-left}
 use Rattle.halo_annuity.proofs.Living.{row-survives}
 use Rattle.halo_compile.proofs.Coefficients.{coefficient-sized, form-of-one}
 use Rattle.halo_annuity.proofs.RunWorths.{part-narrow, part-sized, run-sums, run-within, signed-part, times-sized}
-use Rattle.halo_compile.proofs.Tasks.{count-lives, some-interest, some-survive}
+use Rattle.halo_compile.proofs.Tasks.{count-lives, some-survive}
 use Rattle.halo_annuity.proofs.TaskFacts.{last-in, some-nodes, some-years}
 
 whole-is : (orders all this others interest : ℕ)
@@ -140,7 +141,8 @@ module _ {n m : ℕ} (task : Task n m) (is : IsTask task)
         let this : ℕ = joint_survivors 0 (in_set s) b.lives in
         let orders : ℕ = length (taken b) in
         let interests = some-interest (λ k. (rate_of task.interest.now k).p)
-        (λ k. (rate_of task.interest.now k).q) (λ k. (in_force_is task.interest.now interest k).q_from) 200 0 in
+        (λ k. (rate_of task.interest.now k).q) 200 0
+        (λ k from below. omega (arith, (in_force_is task.interest.now interest k).q_from)) in
         let some : 0 < this = positive-left this others (subst (λ (k : ℕ). 0 < k) split all-survive) in
         let one = holds.encloses (positive-both this (accumulated b 0) some interests) in
         let whole : orders * (joint_survivors 0 all_lives b.lives * accumulated b 0)

@@ -1,10 +1,9 @@
 -- What a valid task says of its lives: how many they are, that they keep the rule of their tables, and that somebody
 -- survives of them.
-use Rattle.std.proofs.Common.{◌≡◌, ℕ, zero, suc, ◌+◌, ◌-◌, ◌^◌, ◌<◌, ◌≤◌, List, [], ◌∷◌, length, Bool, cond, true, false, arith, refl}
+use Rattle.std.proofs.Common.{◌≡◌, ℕ, suc, ◌+◌, ◌-◌, ◌^◌, ◌<◌, ◌≤◌, List, [], ◌∷◌, length, Bool, cond, true, false, arith, refl}
 use Rattle.std.proofs.Math.Nat.{mul-pos, pow-le-pow_right}
 use Rattle.std.proofs.lemmas.List.{length-map}
 use Rattle.std.proofs.lemmas.List.Elements.{All-from_get_or}
-use Rattle.halo_sums.specs.Sums.{numbers_from, product_over}
 use Rattle.halo_table.specs.DecrementTable.{TableFile, survivors_at, HasRow}
 use Rattle.halo_table.specs.declared.lives.Life.{Life}
 use Rattle.halo_model.specs.FromTables.{life_of, lives_of}
@@ -12,6 +11,7 @@ use Rattle.halo_model.specs.Horizon.{life_at}
 use Rattle.halo_model.specs.Life.{AreLives, after_first}
 use Rattle.halo_model.specs.Outcome.{joint_survivors}
 use Rattle.halo_model.proofs.FromTables.{lives_of-AreLives}
+use Rattle.halo_model.proofs.Positive.{some-interest}
 use Rattle.halo_life.specs.PlainGroup.{IsGroup, PlainGroup}
 use Rattle.halo_sums.specs.Masks.{has_bit}
 use Rattle.halo_interest.specs.Rates.{IsInterest, rate_of}
@@ -47,13 +47,6 @@ some-survive file T U (x ∷ lives) h = mul-pos (first (U 0) (h 0 (omega arith))
     first true k = k refl
     first false k = omega arith
 
--- 1 is worth something with interest
-pub some-interest : (p q : ℕ → ℕ)
-    → ((k : ℕ) → 1 ≤ q k) → (count first : ℕ) → 0 < product_over (numbers_from first count) (λ k. p k + q k)
-some-interest p q h zero first = omega arith
-some-interest p q h (suc count) first =
-    mul-pos (omega (arith, h first)) (some-interest p q h count (suc first))
-
 module _ {n m : ℕ} (task : Task n m) where
   -- the living of a set have survivors together
   pub survivors-there : IsGroup n task.group.now → (t alive : ℕ) → HaveSurvivorsAt task t alive
@@ -67,4 +60,4 @@ module _ {n m : ℕ} (task : Task n m) where
       → 0 < accumulated (basis_of_task task Declared) t
   interest-there interest t = some-interest
       (λ k. (rate_of task.interest.now k).p) (λ k. (rate_of task.interest.now k).q)
-      (λ k. (in_force_is task.interest.now interest k).q_from) (200 - t) t
+      (200 - t) t (λ k from below. omega (arith, (in_force_is task.interest.now interest k).q_from))

@@ -2,8 +2,6 @@
 use Rattle.std.proofs.Common.{◌≡◌, ℕ, ◌*◌, ◌<◌, ◌≤◌, arith, refl, ap, sym, ◌∙◌, length, Bool, ◌^◌, subst}
 use Rattle.std.proofs.Math.Nat.{mul-pos}
 use Rattle.halo_sums.specs.Masks.{has_bit}
-use Rattle.halo_sums.specs.Sums.{numbers_from}
-use Rattle.halo_sums.proofs.Sums.{sum_over-const}
 use Rattle.halo_num.specs.Ends.{Ends}
 use Rattle.halo_interest.specs.Rates.{IsInterest}
 use Rattle.halo_status.specs.Pay.{PlainPay}
@@ -14,14 +12,10 @@ use Rattle.halo_model.specs.Chance.{IsValidInsurance}
 use Rattle.halo_model.specs.Counts.{Measures, greatest_factor, measures_of, most_worth}
 use Rattle.halo_model.specs.Horizon.{horizon}
 use Rattle.halo_model.specs.Life.{AreLives}
-use Rattle.halo_model.specs.Order.{orders, orders_taken}
-use Rattle.halo_contract.specs.declared.ties.Ties.{Ties}
-use Rattle.halo_contract.specs.declared.ties.Ties.TheVariants.{Even, Declared}
 use Rattle.halo_model.specs.PartLaws.{EndBy}
 use Rattle.halo_model.specs.Value.{denominator, numerator}
 use Rattle.halo_model.proofs.Bounded.{insurance-is-bounded}
-use Rattle.halo_model.proofs.EvenTies.{factorial-some}
-use Rattle.halo_model.proofs.Orders.{orders-count}
+use Rattle.halo_model.proofs.Positive.{some-orders}
 use Rattle.halo_model.specs.SetValue.{all_events}
 use Rattle.halo_life.specs.Lists.{Lists}
 use Rattle.halo_life.specs.PlainGroup.{IsGroup}
@@ -34,14 +28,6 @@ use Rattle.halo_insure.specs.OfTask.{HoldDuesAt, insured_basis}
 use Rattle.halo_insure.specs.Total.{EnclosesInsurance, HoldDues}
 use Rattle.halo_insure.proofs.Tasks.{are-lives, end-by, lives-of-task, same-insurance, unit-valid}
 use Rattle.halo_insure.proofs.Total.{sets-enclose-value}
-
--- there is an order of the lives
-some-orders : (ties : Ties) (n : ℕ) → 0 < length (orders_taken ties n)
-some-orders Declared n = omega arith
-some-orders Even n =
-    let count = orders-count (numbers_from 0 n) 1 in
-    let each = sum_over-const (orders (numbers_from 0 n)) 1 in
-    omega (arith, count, each, factorial-some (length (numbers_from 0 n)))
 
 pub some-denominator : {n m : ℕ} (task : Task n m) → IsGroup n task.group.now → IsInterest task.interest.now
     → (t alive : ℕ) → HaveSurvivorsAt task t alive → 0 < denominator (insured_basis task) t (has_bit alive)
