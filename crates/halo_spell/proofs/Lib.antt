@@ -21,4 +21,5 @@ pub mod Brief
 pub mod LinesAgain
 pub mod Drafts
 pub mod ReadsBack
+pub mod Spellable
 pub mod CausesLeft

@@ -178,7 +178,11 @@ module _ (tables : TableFile) (sound : IsSound tables) (d : Draft) (named : IsNa
       good = good-canonical_body names named.plain named.short t is.fit
 
       all : PassesAll tables (briefly d) (premium_line (life_names d.lives) (premium_pay t))
-      all kind.Magnitude = record { parts = good.within; few_nodes = rw (nodes-tree_of_body any_life (place_of names) (canonical_body names t), is.content) is.valid.few_nodes }
+      all kind.Magnitude = record {
+        parts = good.within;
+        few_nodes = rw (nodes-tree_of_body any_life (place_of names) (canonical_body names t), is.content)
+            is.valid.few_nodes;
+      }
       all kind.Zero = good.years
       all kind.Order = λ f h. passes kind.Order f (came d f h)
       all kind.Twice = passes kind.Twice

@@ -48,7 +48,9 @@ rate_words_text (rate ∷ rates) =
 
 -- the line of an interest is its first fraction, and the others behind it
 pub interest_text : (rates : List Rate) → 1 ≤ length rates
-    → lines_text (interest_lines rates) ≡ codes "interest " ++ (fraction_word (decimal (rate_at rates 0).p) (decimal (rate_at rates 0).q) ++ (later_text (drop 1 rates) ++ codes "\n"))
+    → lines_text (interest_lines rates)
+    ≡ codes "interest "
+    ++ (fraction_word (decimal (rate_at rates 0).p) (decimal (rate_at rates 0).q) ++ (later_text (drop 1 rates) ++ codes "\n"))
 interest_text [] some = absurd (omega arith)
 interest_text (first ∷ later) some =
     let fraction = fraction_word (decimal first.p) (decimal first.q) in

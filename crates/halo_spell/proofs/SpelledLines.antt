@@ -73,12 +73,14 @@ count_of_names : (d : Draft) → length (life_names d.lives) ≡ length d.lives
 count_of_names d = length-map d.lives (λ (line : LifeLine). line.name)
 
 -- a pay
-pub spelled_pay : (tables : TableFile) (d : Draft) (amount : List ℕ) (s : Symbol) → IsNamed (life_names d.lives) → IsProperLine (pay amount s) → PassesAll tables d (pay amount s) → nest_body s.body ≤ 16
+pub spelled_pay : (tables : TableFile) (d : Draft) (amount : List ℕ) (s : Symbol) → IsNamed (life_names d.lives)
+    → IsProperLine (pay amount s) → PassesAll tables d (pay amount s) → nest_body s.body ≤ 16
     → IsSpelledPay (life_names d.lives) tables.causes (pay_written (life_names d.lives) tables.causes amount s)
 spelled_pay tables d amount s named proper passes deep =
     let names = life_names d.lives in
     let among = rw (← count_of_names d) at (pays_are_valid tables d amount s proper passes) in
-    let both = fit_content names named.different s.mark s.body among.named among.valid.lengths among.valid.lists among.valid.ranks in
+    let valid = among.valid in
+    let both = fit_content names named.different s.mark s.body among.named valid.lengths valid.lists valid.ranks in
     record {
       among = among;
       causes_plain = causes_plain tables.causes s.causes proper.1.causes;
@@ -95,7 +97,8 @@ pub record IsSpelledStatus (names : List (List ℕ)) (s : Tree) : Type 0 where
   pub content : tree_of_body (place_of names) (canonical_body names s) ≡ s
   pub depth : nest_body (canonical_body names s) ≤ 16
 
-pub spelled_status : (tables : TableFile) (d : Draft) (body : Body) → IsNamed (life_names d.lives) → IsProperLine (premium body) → PassesAll tables d (premium body) → nest_body body ≤ 16
+pub spelled_status : (tables : TableFile) (d : Draft) (body : Body) → IsNamed (life_names d.lives)
+    → IsProperLine (premium body) → PassesAll tables d (premium body) → nest_body body ≤ 16
     → IsSpelledStatus (life_names d.lives) (status_tree d body)
 spelled_status tables d body named proper passes deep =
     let names = life_names d.lives in

@@ -17,6 +17,8 @@ returns c =
     let premium = rw c.deref-4.ensures.value at c.in_ok-write_premium.ensures in
     let reserves = rw (c.deref-5.ensures.value, c.deref-6.ensures.value) at c.in_ok-write_reserves.ensures in
     let names = life_names contract.lives.items in
-    six_written _ _ _ _ _ _ _ (interest_lines contract.interest) (map (life_line tables) contract.lives.items) (ties_lines contract.ties)
-    (map (pay_line names tables.causes) (map pay_of contract.pays.items)) (map (premium_line names) (option_to_list (option_map pay_of contract.premium)))
-    (map (reserve_line names) contract.reserves.items) c.new-text.ensures.items c.in_ok-write_interest.ensures lives c.in_ok-write_ties.ensures pays premium reserves
+    six_written _ _ _ _ _ _ _ (interest_lines contract.interest) (map (life_line tables) contract.lives.items)
+    (ties_lines contract.ties) (map (pay_line names tables.causes) (map pay_of contract.pays.items))
+    (map (premium_line names) (option_to_list (option_map pay_of contract.premium)))
+    (map (reserve_line names) contract.reserves.items) c.new-text.ensures.items c.in_ok-write_interest.ensures lives
+    c.in_ok-write_ties.ensures pays premium reserves
