@@ -15,6 +15,8 @@ mod memory;
 mod pay;
 mod status;
 mod symbol;
+#[cfg(test)]
+mod tests;
 mod text;
 
 pub use contract::spell_contract;
