@@ -4,13 +4,14 @@ use Rattle.halo_text.specs.Number.{number}
 use Rattle.halo_status.specs.Exists.{exists}
 use Rattle.halo_status.specs.Nodes.{AtEachNode, IsLasting}
 use Rattle.halo_status.specs.Tree as status
-use Rattle.halo_status.specs.Tree.{Tree}
+use Rattle.halo_status.specs.Tree.{Tree, member_count}
 use Rattle.halo_status.specs.ValidPay.{AreApart, HasRank, IsRank}
 use Rattle.halo_status.specs.View.{is_on}
 use Rattle.halo_status.specs.declared.pay.Kind.TheVariants.{Insurance}
 use Rattle.halo_status.specs.declared.view.View.TheVariants.{Due}
 use Rattle.halo_table.specs.DecrementTable.{TableFile, last_age_of, names_of, HasRow}
 use Rattle.halo_contract.specs.Premium.{all_lives}
+use Rattle.halo_contract.specs.declared.contract.LifeLine.{LifeLine}
 use Rattle.halo_symbol.specs.Tree.{Node, life, term, Body}
 use Rattle.halo_symbol.specs.Symbol.{Vary, decreasing, Symbol}
 use Rattle.halo_symbol.specs.StatusOf.{tree_of_body, tree_of_symbol}
@@ -25,14 +26,20 @@ use Rattle.halo_parse.specs.declared.fault.ContractKind.{ContractKind}
 use Rattle.halo_parse.specs.declared.fault.ContractKind.TheVariants as kind
 use Rattle.halo_parse.specs.declared.form.Form.TheVariants as form
 
--- Magnitude: each number, name and list is within its limit, and so is how many lines of a form there are and what the amounts add up to
+-- Magnitude: each number, name and list is within its limit, and so is how many lines of a form
+-- there are and what the amounts add up to
 abbrev pub IsWithinLimits : Draft → Line → Type 0
-IsWithinLimits d (line.interest p q rates) = IsUpTo (10 ^ 9) p × IsUpTo (10 ^ 9) q × All IsRateWithin rates × (length rates < 8)
-IsWithinLimits d (line.life name table age) = IsShortName name × IsShortName table × IsUpTo 150 age × (length d.lives < 12)
+IsWithinLimits d (line.interest p q rates) =
+    IsUpTo (10 ^ 9) p × IsUpTo (10 ^ 9) q × All IsRateWithin rates × (length rates < 8)
+IsWithinLimits d (line.life name table age) =
+    IsShortName name × IsShortName table × IsUpTo 150 age × (length d.lives < 12)
 IsWithinLimits d (line.ties r) = ⊤
-IsWithinLimits d (line.pay amount s) = IsUpTo (10 ^ 10) amount × IsSymbolWithin s × (length d.pays < 64) × (amount_of_all d.pays + number amount ≤ 10 ^ 10)
+IsWithinLimits d (line.pay amount s) =
+    IsUpTo (10 ^ 10) amount × IsSymbolWithin s × (length d.pays < 64)
+    × (amount_of_all d.pays + number amount ≤ 10 ^ 10)
 IsWithinLimits d (line.premium body) = IsStatusWithin body
-IsWithinLimits d (line.reserve time names) = IsUpTo 200 time × All IsShortName names × (length d.reserves < 64)
+IsWithinLimits d (line.reserve time names) =
+    IsUpTo 200 time × All IsShortName names × (length d.reserves < 64)
 
 -- the digits write a number that is not 0
 abbrev pub IsSome : List ℕ → Type 0
@@ -50,8 +57,10 @@ FallsFromSome _ = ⊤
 
 -- Zero: no Q, YEAR, amount, term or number of a `D` is 0
 abbrev pub HasNoZero : Line → Type 0
-HasNoZero (line.interest p q rates) = IsSome q × All (λ rate. IsSome rate.year × IsSome rate.q) rates
-HasNoZero (line.pay amount s) = IsSome amount × FallsFromSome s.vary × parts.AtEachNode HasYears s.body
+HasNoZero (line.interest p q rates) =
+    IsSome q × All (λ rate. IsSome rate.year × IsSome rate.q) rates
+HasNoZero (line.pay amount s) =
+    IsSome amount × FallsFromSome s.vary × parts.AtEachNode HasYears s.body
 HasNoZero (line.premium body) = parts.AtEachNode HasYears body
 HasNoZero _ = ⊤
 
@@ -72,7 +81,8 @@ HasRisingYears _ = ⊤
 abbrev pub AreDifferent : List (List ℕ) → Type 0
 AreDifferent names = (i j : ℕ) → i < j → j < length names → get_or names i [] ≢ get_or names j []
 
--- Twice: there is one interest, one ties and one premium line, a life's name is new, and no name stands twice in a set or in a reserve
+-- Twice: there is one interest, one ties and one premium line, a life's name is new, and no name
+-- stands twice in a set or in a reserve
 abbrev pub IsOnce : Draft → Line → Type 0
 IsOnce d (line.interest p q rates) = CameBefore d form.Interest → ⊥
 IsOnce d (line.life name table age) = Contains (life_names d.lives) name → ⊥
@@ -88,7 +98,8 @@ HasTable tables _ = ⊤
 
 -- NoAge: a life's table has a row at its age
 abbrev pub HasAge : TableFile → Line → Type 0
-HasAge tables (line.life name table age) = HasRow tables (place_of (names_of tables.tables) table) (number age)
+HasAge tables (line.life name table age) =
+    HasRow tables (place_of (names_of tables.tables) table) (number age)
 HasAge tables _ = ⊤
 
 -- the name of a member was declared
@@ -105,7 +116,8 @@ HasLives d _ = ⊤
 
 -- NoCause: the names of a set are causes of the tables file
 abbrev pub HasCauses : TableFile → Line → Type 0
-HasCauses tables (line.pay amount s) = IfSome s.causes (λ names. All (λ name. Contains tables.causes name) (all_names names))
+HasCauses tables (line.pay amount s) =
+    IfSome s.causes (λ names. All (λ name. Contains tables.causes name) (all_names names))
 HasCauses tables _ = ⊤
 
 -- the status that a symbol, or a status, is in a draft
@@ -120,10 +132,13 @@ abbrev pub OfMembers : (status.Trees → Type 0) → Tree → Type 0
 OfMembers P (status.joint ms) = P ms
 OfMembers P _ = ⊤
 
--- Rank: the number of an `at least`, an `exactly` and a mark is from 1 to the number of members of its list
+-- Rank: the number of an `at least`, an `exactly` and a mark is from 1 to the number of members of
+-- its list
 abbrev pub HasRanks : Draft → Line → Type 0
 HasRanks d (line.pay amount s) =
-    AtEachNode HasRank (symbol_tree d s) × IfSome s.mark (λ mark. OfMembers (λ ms. IsRank (number mark.rank) (status.member_count ms)) (symbol_tree d s))
+    let tree = symbol_tree d s in
+    AtEachNode HasRank tree
+    × IfSome s.mark (λ mark. OfMembers (λ ms. IsRank (number mark.rank) (member_count ms)) tree)
 HasRanks d (line.premium body) = AtEachNode HasRank (status_tree d body)
 HasRanks d _ = ⊤
 
@@ -134,7 +149,8 @@ IsLastingLine d _ = ⊤
 
 -- Shared: in a marked list no two different members name the same life or the same term length
 abbrev pub SharesNothingMarked : Draft → Line → Type 0
-SharesNothingMarked d (line.pay amount s) = IfSome s.mark (λ mark. OfMembers AreApart (symbol_tree d s))
+SharesNothingMarked d (line.pay amount s) =
+    IfSome s.mark (λ mark. OfMembers AreApart (symbol_tree d s))
 SharesNothingMarked d _ = ⊤
 
 -- NotAtStart: the premium's status exists at time 0 with all lives alive
@@ -142,10 +158,15 @@ abbrev pub ExistsAtStart : Draft → Line → Type 0
 ExistsAtStart d (line.premium body) = exists all_lives (is_on Due 0) (status_tree d body) ≡ true
 ExistsAtStart d _ = ⊤
 
+-- a life that has one of the names has a row at its age plus t, where it has one at its age
+abbrev pub IsAliveIfNamed : TableFile → List (List ℕ) → ℕ → LifeLine → Type 0
+IsAliveIfNamed tables names t declared =
+    Contains names declared.name → declared.life.age + t ≤ last_age_of tables declared.life.table
+
 -- NotAlive: each life named in a reserve has a row at its age plus T
 abbrev pub AreAliveThen : TableFile → Draft → Line → Type 0
 AreAliveThen tables d (line.reserve time names) =
-    All (λ declared. Contains names declared.name → declared.life.age + number time ≤ last_age_of tables declared.life.table) d.lives
+    All (IsAliveIfNamed tables names (number time)) d.lives
 AreAliveThen tables d _ = ⊤
 
 -- a line passes the check of this kind

@@ -16,8 +16,8 @@ use Rattle.halo_parse.specs.ProperLine.{IsProperLine}
 abbrev pub PaysAreValid : Type 0
 PaysAreValid = (tables : TableFile) (d : Draft) (amount : List ℕ) (s : Symbol)
     → IsProperLine (pay amount s) → PassesAll tables d (pay amount s)
-    → IsValidAmong (length d.lives) (length tables.causes)
-    (pay_written (life_names d.lives) tables.causes amount s)
+    → let added = pay_written (life_names d.lives) tables.causes amount s in
+    IsValidAmong (length d.lives) (length tables.causes) added
 
 -- a premium line that passes all checks adds a valid premium
 abbrev pub PremiumsAreValid : Type 0

@@ -9,4 +9,5 @@ count_of byte text = length (filter (λ b. b == byte) text)
 
 -- up to each place of a line the round brackets opened exceed those closed by at most 16
 abbrev pub IsShallow : List ℕ → Type 0
-IsShallow line = (n : ℕ) → n ≤ length line → count_of round_open (take n line) ≤ count_of round_close (take n line) + 16
+IsShallow line = (n : ℕ) → n ≤ length line
+    → count_of round_open (take n line) ≤ count_of round_close (take n line) + 16

@@ -10,6 +10,7 @@ use Rattle.halo_status.specs.declared.pay.Vary.TheVariants as paid
 use Rattle.halo_status.specs.declared.pay.Mark.{Mark}
 use Rattle.halo_contract.specs.Premium.{premium_pay}
 use Rattle.halo_table.specs.DecrementTable.{TableFile, names_of}
+use Rattle.halo_table.specs.declared.lives.Life.{Life}
 use Rattle.halo_symbol.specs.Symbol as written
 use Rattle.halo_symbol.specs.Symbol.{Names, Symbol, level, increasing, decreasing}
 use Rattle.halo_symbol.specs.StatusOf.{tree_of_body, tree_of_symbol}
@@ -35,7 +36,14 @@ pub record Draft : Type 0 where
 
 -- what is said before the first line
 abbrev pub empty_draft : Draft
-empty_draft = record { interest = None; lives = []; ties = None; pays = []; premium = None; reserves = [] }
+empty_draft = record {
+  interest = None;
+  lives = [];
+  ties = None;
+  pays = [];
+  premium = None;
+  reserves = [];
+}
 
 -- whether a name is one of some names
 abbrev pub is_among : List (List ℕ) → List ℕ → Bool
@@ -92,14 +100,21 @@ pay_written lives causes amount s = record {
 
 -- what some lines say with one more
 unfoldable pub with_line : TableFile → Draft → Line → Draft
-with_line tables d (interest p q rates) = record d { interest = Some (record { year = 0; p = number p; q = number q } ∷ map rate_from rates) }
+with_line tables d (interest p q rates) =
+    let first : Rate = record { year = 0; p = number p; q = number q } in
+    record d { interest = Some (first ∷ map rate_from rates) }
 with_line tables d (life name table age) =
-    record d { lives = d.lives ++ record { name = name; life = record { table = place_of (names_of tables.tables) table; age = number age } } ∷ [] }
+    let place = place_of (names_of tables.tables) table in
+    let declared : Life = record { table = place; age = number age } in
+    record d { lives = d.lives ++ record { name = name; life = declared } ∷ [] }
 with_line tables d (ties r) = record d { ties = Some r }
-with_line tables d (pay amount symbol) = record d { pays = d.pays ++ pay_written (life_names d.lives) tables.causes amount symbol ∷ [] }
-with_line tables d (premium status) = record d { premium = Some (premium_pay (tree_of_body (place_of (life_names d.lives)) status)) }
+with_line tables d (pay amount symbol) =
+    record d { pays = d.pays ++ pay_written (life_names d.lives) tables.causes amount symbol ∷ [] }
+with_line tables d (premium status) =
+    record d { premium = Some (premium_pay (tree_of_body (place_of (life_names d.lives)) status)) }
 with_line tables d (reserve time names) =
-    record d { reserves = d.reserves ++ record { time = number time; alive = mask_of_names (life_names d.lives) names } ∷ [] }
+    let alive : ℕ = mask_of_names (life_names d.lives) names in
+    record d { reserves = d.reserves ++ record { time = number time; alive = alive } ∷ [] }
 
 -- the contract that some lines make: where no line says a rule for ties, the declared order settles
 -- them

@@ -26,7 +26,8 @@ pub record IsFine (tables : TableFile) (d : Draft) (text : List ℕ) (l : Line) 
   pub spells : SpellsLine (words_of text) l
   pub passes : PassesAll tables d l
 
--- the text has this fault, which is the first one: brackets that open too far come first, then a text that is no line, then the checks
+-- the text has this fault, which is the first one: brackets that open too far come first, then a
+-- text that is no line, then the checks
 abbrev pub HasFault : TableFile → Draft → List ℕ → ContractKind → Type 0
 HasFault tables d text k =
     ((is_silent (words_of text) ≡ false) × (IsShallow text → ⊥) × (k ≡ kind.Magnitude))
@@ -37,15 +38,18 @@ HasFault tables d text k =
 abbrev pub MakesDraft : TableFile → Draft → List (List ℕ) → Draft → Type 0
 MakesDraft tables d [] final = final ≡ d
 MakesDraft tables d (text ∷ texts) final =
-    (IsSilent text × MakesDraft tables d texts final) ⊎ ((l : Line) × IsFine tables d text l × MakesDraft tables (with_line tables d l) texts final)
+    (IsSilent text × MakesDraft tables d texts final)
+    ⊎ ((l : Line) × IsFine tables d text l × MakesDraft tables (with_line tables d l) texts final)
 
--- the line of this number is the first faulty one of some lines, which are counted from `count`, and this is its first fault
+-- the line of this number is the first faulty one of some lines, which are counted from `count`,
+-- and this is its first fault
 abbrev pub FirstFaultOf : TableFile → Draft → ℕ → List (List ℕ) → ℕ → ContractKind → Type 0
 FirstFaultOf tables d count [] number k = ⊥
 FirstFaultOf tables d count (text ∷ texts) number k =
     (HasFault tables d text k × (number ≡ count))
     ⊎ (IsSilent text × FirstFaultOf tables d (count + 1) texts number k)
-    ⊎ ((l : Line) × IsFine tables d text l × FirstFaultOf tables (with_line tables d l) (count + 1) texts number k)
+    ⊎ ((l : Line) × IsFine tables d text l
+    × FirstFaultOf tables (with_line tables d l) (count + 1) texts number k)
 
 -- a draft that makes a contract: there is an interest, a life and a pay
 pub record IsWhole (d : Draft) : Type 0 where
@@ -61,8 +65,10 @@ pub record WritesContract (tables : TableFile) (bytes : List ℕ) (contract : Pl
   pub whole : IsWhole draft
   pub made : contract ≡ contract_made draft
 
--- where no line is faulty, but the lines make no contract, that is told of the line behind the last one
-pub record IsMissing (tables : TableFile) (bytes : List ℕ) (number : ℕ) (k : ContractKind) : Type 0 where
+-- where no line is faulty, but the lines make no contract, that is told of the line behind the last
+-- one
+pub record IsMissing (tables : TableFile) (bytes : List ℕ) (number : ℕ) (k : ContractKind)
+    : Type 0 where
   pub draft : Draft
   pub lines : MakesDraft tables empty_draft (lines_of bytes) draft
   pub not_whole : IsWhole draft → ⊥
@@ -71,4 +77,5 @@ pub record IsMissing (tables : TableFile) (bytes : List ℕ) (number : ℕ) (k :
 
 -- the first fault of the bytes: the number of the line, from 1, and the kind
 abbrev pub IsContractFault : TableFile → List ℕ → ℕ → ContractKind → Type 0
-IsContractFault tables bytes number k = FirstFaultOf tables empty_draft 1 (lines_of bytes) number k ⊎ IsMissing tables bytes number k
+IsContractFault tables bytes number k =
+    FirstFaultOf tables empty_draft 1 (lines_of bytes) number k ⊎ IsMissing tables bytes number k

@@ -12,15 +12,15 @@ ContractIsOne = (tables : TableFile) (bytes : List ℕ) (contract other : PlainC
 
 -- a file has at most one first fault: one line, and one kind there
 abbrev pub FirstFaultIsOne : Type 0
-FirstFaultIsOne = (tables : TableFile) (bytes : List ℕ)
-    (line other_line : ℕ) (k other_kind : ContractKind)
+FirstFaultIsOne = (tables : TableFile) (bytes : List ℕ) (line other_line : ℕ)
+    (k other_kind : ContractKind)
     → IsContractFault tables bytes line k → IsContractFault tables bytes other_line other_kind
     → (line ≡ other_line) × (k ≡ other_kind)
 
 -- a file that writes a contract has no fault
 abbrev pub NoFaultIsFirst : Type 0
-NoFaultIsFirst = (tables : TableFile) (bytes : List ℕ)
-    (contract : PlainContract) (line : ℕ) (k : ContractKind)
+NoFaultIsFirst = (tables : TableFile) (bytes : List ℕ) (contract : PlainContract)
+    (line : ℕ) (k : ContractKind)
     → WritesContract tables bytes contract → IsContractFault tables bytes line k → ⊥
 
 -- every file writes a contract, or has a first fault

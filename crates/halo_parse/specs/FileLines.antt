@@ -27,9 +27,11 @@ without_return [] = []
 without_return (byte ∷ []) = if byte == 13 then [] else byte ∷ []
 without_return (byte ∷ next ∷ rest) = byte ∷ without_return (next ∷ rest)
 
--- the lines of a file: what stands between its line feeds; behind the last line feed there is no line where nothing stands there
+-- the lines of a file: what stands between its line feeds; behind the last line feed there is no
+-- line where nothing stands there
 abbrev pub lines_of : List ℕ → List (List ℕ)
-lines_of bytes = map without_return (without_empty_end (slice_split is_line_feed (without_mark bytes)))
+lines_of bytes =
+    map without_return (without_empty_end (slice_split is_line_feed (without_mark bytes)))
 
 -- whether there is a byte
 abbrev pub is_some : List ℕ → Bool

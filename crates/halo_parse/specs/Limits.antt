@@ -16,7 +16,8 @@ IsUpTo limit digits = number digits ≤ limit
 abbrev pub IsShortName : List ℕ → Type 0
 IsShortName name = length name ≤ 32
 
--- a member whose name has at most 32 bytes, whose term has at most 200 years, or whose number is at most 64
+-- a member whose name has at most 32 bytes, whose term has at most 200 years, or whose number is at
+-- most 64
 abbrev pub IsMemberWithin : Node → Type 0
 IsMemberWithin (life name) = IsShortName name
 IsMemberWithin (term years) = IsUpTo 200 years
@@ -51,7 +52,8 @@ IsVaryWithin _ = ⊤
 abbrev pub AreNamesWithin : Names → Type 0
 AreNamesWithin names = IsShortName names.first × All IsShortName names.others
 
--- a symbol: each of its numbers, names and lists is within its limit, and its body has at most 64 nodes
+-- a symbol: each of its numbers, names and lists is within its limit, and its body has at most 64
+-- nodes
 pub record IsSymbolWithin (s : Symbol) : Type 0 where
   pub defer : IfSome s.defer (IsUpTo 200)
   pub vary : IsVaryWithin s.vary

@@ -5,8 +5,10 @@ use Rattle.halo_parse.specs.ProperLine.{SpellsLine}
 
 -- words spell at most one line
 abbrev pub LineIsOne : Type 0
-LineIsOne = (words : List (List ℕ)) (line other : Line) → SpellsLine words line → SpellsLine words other → line ≡ other
+LineIsOne = (words : List (List ℕ)) (line other : Line)
+    → SpellsLine words line → SpellsLine words other → line ≡ other
 
 -- words spell a line, or they spell none
 abbrev pub LineIsDecided : Type 0
-LineIsDecided = (words : List (List ℕ)) → ((line : Line) × SpellsLine words line) ⊎ ((line : Line) → SpellsLine words line → ⊥)
+LineIsDecided = (words : List (List ℕ))
+    → ((line : Line) × SpellsLine words line) ⊎ ((line : Line) → SpellsLine words line → ⊥)

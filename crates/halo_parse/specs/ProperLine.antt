@@ -11,7 +11,8 @@ pub record IsProperRate (rate : LaterRate) : Type 0 where
   pub p : IsNumber rate.p
   pub q : IsNumber rate.q
 
--- a line whose names are names and whose numbers are numbers, of any length; no life is declared as `bar`
+-- a line whose names are names and whose numbers are numbers, of any length; no life is declared as
+-- `bar`
 abbrev pub IsProperLine : Line → Type 0
 IsProperLine (interest p q rates) = IsNumber p × IsNumber q × All IsProperRate rates
 IsProperLine (life name table age) = IsPlainName name × IsLongName table × IsNumber age

@@ -15,21 +15,26 @@ use Rattle.halo_contract.specs.PlainContract.{contract_of}
 
 -- a line passes the checks before this one
 abbrev pub PassesBefore : TableFile → Draft → Line → ContractKind → Type 0
-PassesBefore tables d l k = (j : ContractKind) → place_of_check j < place_of_check k → Passes tables d l j
+PassesBefore tables d l k = (j : ContractKind)
+    → place_of_check j < place_of_check k → Passes tables d l j
 
 -- an error tells the first check that a line does not pass; want of memory tells nothing
 abbrev pub FailsWith : TableFile → Draft → Line → LineError → Type 0
 FailsWith tables d l (error.Fault k) = FailsFirst tables d l k
 FailsWith tables d l error.Memory = ⊤
 
--- an error tells the first fault of a text, behind the lines that have made a draft; want of memory tells nothing
+-- an error tells the first fault of a text, behind the lines that have made a draft; want of memory
+-- tells nothing
 abbrev pub IsToldOf : TableFile → Draft → List ℕ → LineError → Type 0
 IsToldOf tables d text (error.Fault k) = HasFault tables d text k
 IsToldOf tables d text error.Memory = ⊤
 
--- a text without fault takes one draft to another: the same where it says nothing, and else with its line
+-- a text without fault takes one draft to another: the same where it says nothing, and else with
+-- its line
 abbrev pub TakesText : TableFile → Draft → List ℕ → Draft → Type 0
-TakesText tables d text next = (IsSilent text × (next ≡ d)) ⊎ ((l : Line) × IsFine tables d text l × (next ≡ with_line tables d l))
+TakesText tables d text next =
+    (IsSilent text × (next ≡ d))
+    ⊎ ((l : Line) × IsFine tables d text l × (next ≡ with_line tables d l))
 
 -- the contract that the bytes write, or their first fault; want of memory tells nothing
 abbrev pub ReadsContract : TableFile → List ℕ → Result Contract ContractError → Type 0

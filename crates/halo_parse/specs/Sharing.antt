@@ -14,7 +14,8 @@ ShareNoTerm ms t = (n : ℕ) → IsTrue (any_names_term n ms) → IsTrue (names_
 
 -- the members at two places share nothing
 abbrev pub AreApartAt : Trees → ℕ → ℕ → Type 0
-AreApartAt ms p q = (s t : Tree) → member_at ms p ≡ Some s → member_at ms q ≡ Some t → SharesNothing s t
+AreApartAt ms p q = (s t : Tree)
+    → member_at ms p ≡ Some s → member_at ms q ≡ Some t → SharesNothing s t
 
 -- the member at a place shares nothing with those before it
 abbrev pub IsApartAt : Trees → ℕ → Type 0

@@ -7,7 +7,8 @@ use Rattle.halo_parse.specs.Checks.{IsDeclared}
 use Rattle.halo_parse.specs.Limits.{IsBodyWithin, IsListWithin, IsMemberWithin, IsSymbolWithin}
 use Rattle.halo_parse.specs.Parts.{AtEach, AtEachMember, AtEachNode}
 
--- a member is proper, its parts are within their limits, and the lives that it names are among these
+-- a member is proper, its parts are within their limits, and the lives that it names are among
+-- these
 pub record IsUsable (lives : List (List ℕ)) (m : Node) : Type 0 where
   pub proper : IsProper m
   pub within : AtEach IsMemberWithin IsListWithin m

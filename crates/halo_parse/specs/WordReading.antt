@@ -9,7 +9,8 @@ use Rattle.halo_parse.specs.LineReading.{IsFraction, NoFraction}
 use Rattle.halo_parse.specs.declared.fault.ContractKind.{ContractKind}
 use Rattle.halo_parse.specs.declared.fault.ContractKind.TheVariants as kind
 
--- what reading a number answers: the number where it is at most the limit, and else the fault of the word
+-- what reading a number answers: the number where it is at most the limit, and else the fault of
+-- the word
 abbrev pub ReadsLimited : List ℕ → ℕ → Result ℕ ContractKind → Type 0
 ReadsLimited word limit (Ok value) = IsNumber word × (value ≡ number word) × (value ≤ limit)
 ReadsLimited word limit (Err kind.Syntax) = IsNumber word → ⊥
@@ -22,10 +23,14 @@ pub record IsFractionWithin (word p q : List ℕ) : Type 0 where
   pub p_in : IsUpTo (10 ^ 9) p
   pub q_in : IsUpTo (10 ^ 9) q
 
--- what reading a fraction answers: the interest P/Q of all years, or the first fault of the word: it is no fraction, P or Q is above 10^9, Q is 0
+-- what reading a fraction answers: the interest P/Q of all years, or the first fault of the word:
+-- it is no fraction, P or Q is above 10^9, Q is 0
 abbrev pub ReadsFraction : List ℕ → Result (List Rate) ContractKind → Type 0
-ReadsFraction word (Ok interest) = (p : List ℕ) × (q : List ℕ) × IsFractionWithin word p q × IsSome q × (interest ≡ level (number p) (number q))
+ReadsFraction word (Ok interest) = (p : List ℕ) × (q : List ℕ)
+    × IsFractionWithin word p q × IsSome q × (interest ≡ level (number p) (number q))
 ReadsFraction word (Err kind.Syntax) = NoFraction word
-ReadsFraction word (Err kind.Magnitude) = (p : List ℕ) × (q : List ℕ) × IsFraction word p q × ((10 ^ 9 < number p) ⊎ (10 ^ 9 < number q))
-ReadsFraction word (Err kind.Zero) = (p : List ℕ) × (q : List ℕ) × IsFractionWithin word p q × (number q ≡ 0)
+ReadsFraction word (Err kind.Magnitude) = (p : List ℕ) × (q : List ℕ)
+    × IsFraction word p q × ((10 ^ 9 < number p) ⊎ (10 ^ 9 < number q))
+ReadsFraction word (Err kind.Zero) = (p : List ℕ) × (q : List ℕ)
+    × IsFractionWithin word p q × (number q ≡ 0)
 ReadsFraction word (Err _) = ⊥

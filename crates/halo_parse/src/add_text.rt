@@ -25,9 +25,12 @@ use std::alloc::Global;
 
 // The line that a text is, or what is wrong with it before the checks; None where it says nothing.
 fn readable_line(alloc: Global, text: &[u8]) -> Result<Option<Line<'_>>, LineError>
-    ensures readable { IfOk result (λ read. MatchOption read (IsSilent text.now) (λ _. IsReadable text.now)) }
-    ensures spelled { IfOk result (λ read. IfSome read (λ line. SpellsLine (words_of text.now) (plain_line line))) }
-    ensures fault { IfErr result (λ error. (tables : TableFile) (d : PlainDraft) → IsToldOf tables d text.now error) }
+    ensures readable { IfOk result
+        (λ read. MatchOption read (IsSilent text.now) (λ _. IsReadable text.now)) }
+    ensures spelled { IfOk result
+        (λ read. IfSome read (λ line. SpellsLine (words_of text.now) (plain_line line))) }
+    ensures fault { IfErr result
+        (λ error. (tables : TableFile) (d : PlainDraft) → IsToldOf tables d text.now error) }
 {
     match read_line(alloc, text) {
         Ok(None) => Ok(None),
@@ -77,7 +80,8 @@ pub fn add_text(
     text: &[u8],
 ) -> Result<(), LineError>
     requires { IsKept tables.now (draft_of draft.old) }
-    ensures ok { OnOk result (TakesText tables.now (draft_of draft.old) text.now (draft_of draft.new)) }
+    ensures ok { OnOk result
+        (TakesText tables.now (draft_of draft.old) text.now (draft_of draft.new)) }
     ensures kept { OnOk result (IsKept tables.now (draft_of draft.new)) }
     ensures fault { IfErr result (IsToldOf tables.now (draft_of draft.old) text.now) }
 {

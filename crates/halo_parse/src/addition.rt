@@ -53,7 +53,8 @@ pub fn addition_from(
     line: &Line<'_>,
 ) -> Result<Addition, Memory>
     requires proper { IsProperLine (plain_line line.now) }
-    requires passes { PassesBefore tables.now (draft_of draft.now) (plain_line line.now) ContractKind.Rank }
+    requires passes { PassesBefore tables.now (draft_of draft.now) (plain_line line.now)
+        ContractKind.Rank }
     requires kept { IsKept tables.now (draft_of draft.now) }
     ensures { IfOk result (Adds tables.now (draft_of draft.now) (plain_line line.now)) }
 {
@@ -90,7 +91,8 @@ fn interest_from(p: &[u8], q: &[u8], later: &[LaterRate<'_>]) -> Interest
     requires some { All (λ rate. IsSome rate.year × IsSome rate.q) (map plain_rate later.now) }
     requires rise { YearsRise (map plain_rate later.now) }
     requires few { length later.now < 8 }
-    ensures { result ≡ record { year = 0; p = number p.now; q = number q.now } ∷ map rate_from (map plain_rate later.now) }
+    ensures { result ≡ record { year = 0; p = number p.now; q = number q.now }
+        ∷ map rate_from (map plain_rate later.now) }
 {
     let Some(mut interest) = Interest::new(
         number_within(p, GREATEST_PART),
@@ -116,7 +118,8 @@ fn life_from(tables: &Tables, name: &[u8], table: &[u8], age: &[u8]) -> LifeLine
     requires table { Contains (names_of tables.now.tables) table.now }
     requires number { IsNumber age.now }
     requires age { IsUpTo 150 age.now }
-    ensures { result ≡ record { name = name.now; life = record { table = place_of (names_of tables.now.tables) table.now; age = number age.now } } }
+    ensures { let place = place_of (names_of tables.now.tables) table.now in
+        result ≡ record { name = name.now; life = record { table = place; age = number age.now } } }
 {
     match (Name::new(name), place_of_table(tables, table)) {
         (Some(name), Some(table)) => LifeLine {
@@ -134,7 +137,8 @@ fn life_from(tables: &Tables, name: &[u8], table: &[u8], age: &[u8]) -> LifeLine
 fn premium_from(alloc: Global, body: &Body<'_>, lives: &[LifeLine]) -> Result<Pay, Memory>
     requires usable { IsUsableBody (life_names lives.now) (plain_body body.now) }
     requires few { length lives.now ≤ 12 }
-    ensures { IfOk result (λ pay. pay_of pay ≡ premium_pay (tree_of_body (place_of (life_names lives.now)) (plain_body body.now))) }
+    ensures { IfOk result (λ pay. pay_of pay
+        ≡ premium_pay (tree_of_body (place_of (life_names lives.now)) (plain_body body.now))) }
 {
     Ok(Pay {
         amount: 1,

@@ -69,7 +69,8 @@ fn are_rates_within(rates: &[LaterRate<'_>]) -> bool
 
 // Whether a fraction is within its limits.
 fn is_rate_within(rate: &LaterRate<'_>) -> bool
-    ensures { IsProperRate (plain_rate rate.now) → (IsTrue result ↔ IsRateWithin (plain_rate rate.now)) }
+    ensures { IsProperRate (plain_rate rate.now)
+        → (IsTrue result ↔ IsRateWithin (plain_rate rate.now)) }
 {
     number_up_to(rate.year, 199).is_ok()
         && number_up_to(rate.p, GREATEST_PART).is_ok()
@@ -92,7 +93,8 @@ fn are_short_names(names: &[&[u8]]) -> bool
 fn has_room_for(draft: &Draft, amount: &[u8]) -> bool
     requires number { IsNumber amount.now }
     requires amounts { amount_of_all (draft_of draft.now).pays ≤ 10 ^ 10 }
-    ensures { IsTrue result ↔ (IsUpTo (10 ^ 10) amount.now × (amount_of_all (draft_of draft.now).pays + number amount.now ≤ 10 ^ 10)) }
+    ensures { IsTrue result ↔ (IsUpTo (10 ^ 10) amount.now
+        × (amount_of_all (draft_of draft.now).pays + number amount.now ≤ 10 ^ 10)) }
 {
     match number_up_to(amount, GREATEST_AMOUNT) {
         Ok(value) => amounts_of(&draft.pays) + value <= GREATEST_AMOUNT,
@@ -138,7 +140,8 @@ pub fn has_no_zero(line: &Line<'_>) -> bool
 // Whether no year and no Q of the fractions is 0.
 fn have_no_zero(rates: &[LaterRate<'_>]) -> bool
     requires { All IsProperRate (map plain_rate rates.now) }
-    ensures { IsTrue result ↔ All (λ rate. IsSome rate.year × IsSome rate.q) (map plain_rate rates.now) }
+    ensures { IsTrue result
+        ↔ All (λ rate. IsSome rate.year × IsSome rate.q) (map plain_rate rates.now) }
 {
     for rate in rates {
         if !has_some(rate) {
@@ -150,7 +153,8 @@ fn have_no_zero(rates: &[LaterRate<'_>]) -> bool
 
 // Whether the year and the Q of a fraction are not 0.
 fn has_some(rate: &LaterRate<'_>) -> bool
-    ensures { IsProperRate (plain_rate rate.now) → (IsTrue result ↔ (IsSome (plain_rate rate.now).year × IsSome (plain_rate rate.now).q)) }
+    ensures { IsProperRate (plain_rate rate.now)
+        → (IsTrue result ↔ (IsSome (plain_rate rate.now).year × IsSome (plain_rate rate.now).q)) }
 {
     number_up_to(rate.year, 0).is_err() && number_up_to(rate.q, 0).is_err()
 }

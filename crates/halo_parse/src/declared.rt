@@ -16,7 +16,8 @@ use std::collections::BTreeSet;
 
 /// The place of the life of this name, from 0; None where no life has it.
 pub fn place_of_life(lives: &[LifeLine], name: &[u8]) -> Option<usize>
-    ensures some { IfSome result (λ place. (place ≡ place_of (life_names lives.now) name.now) × (place < length lives.now)) }
+    ensures some { IfSome result
+        (λ place. (place ≡ place_of (life_names lives.now) name.now) × (place < length lives.now)) }
     ensures none { IfNone result (Contains (life_names lives.now) name.now → ⊥) }
 {
     for (place, line) in lives.iter().enumerate() {
@@ -72,7 +73,8 @@ pub fn names_declared(body: &Body<'_>, lives: &[LifeLine]) -> bool
 /// Whether no two of some names are equal. It takes memory for the names, which it keeps in order,
 /// since a line may have thousands of them, too many to compare each with each.
 pub fn are_different(alloc: Global, names: &[&[u8]]) -> Result<bool, Memory>
-    ensures { IfOk result (λ different. IsTrue different ↔ AreDifferent (map (λ name. name.now) names.now)) }
+    ensures { IfOk result
+        (λ different. IsTrue different ↔ AreDifferent (map (λ name. name.now) names.now)) }
 {
     let mut earlier = BTreeSet::new(alloc);
     for name in names {

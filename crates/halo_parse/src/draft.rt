@@ -42,7 +42,9 @@ impl Draft {
     /// Adds what a line adds.
     #[tactic(auto, unfolding(crate::specs::Draft::with_line))]
     pub fn add(&mut self, addition: Addition) -> Result<(), Memory>
-        ensures { OnOk result ((tables : TableFile) (line : Line) → Adds tables (draft_of self.old) line addition → draft_of self.new ≡ with_line tables (draft_of self.old) line) }
+        ensures { OnOk result ((tables : TableFile) (line : Line)
+            → Adds tables (draft_of self.old) line addition
+            → draft_of self.new ≡ with_line tables (draft_of self.old) line) }
     {
         match addition {
             Addition::Interest(interest) => self.interest = Some(interest),

@@ -22,7 +22,8 @@ pub enum Form {
 impl Form {
     /// The form that comes behind it in the order, where it is not the last.
     pub fn next(self) -> Option<Form>
-        ensures { MatchOption result (place_of_form self ≡ 5) (λ later. place_of_form later ≡ place_of_form self + 1) }
+        ensures { MatchOption result (place_of_form self ≡ 5)
+            (λ later. place_of_form later ≡ place_of_form self + 1) }
     {
         match self {
             Form::Interest => Some(Form::Life),

@@ -26,7 +26,8 @@ use std::alloc::Global;
 /// Twice: whether there is just one interest, one ties and one premium line, a life's name is new,
 /// and no name stands twice in a set or in a reserve.
 pub fn is_once(alloc: Global, draft: &Draft, line: &Line<'_>) -> Result<bool, Memory>
-    ensures { IfOk result (λ once. IsTrue once ↔ IsOnce (draft_of draft.now) (plain_line line.now)) }
+    ensures { IfOk result
+        (λ once. IsTrue once ↔ IsOnce (draft_of draft.now) (plain_line line.now)) }
 {
     match line {
         Line::Interest { .. } => Ok(!came_before(draft, Form::Interest)),
@@ -43,7 +44,8 @@ pub fn is_once(alloc: Global, draft: &Draft, line: &Line<'_>) -> Result<bool, Me
 
 // Whether no two names of a set are equal.
 fn are_different_in_set(alloc: Global, names: &Names<'_>) -> Result<bool, Memory>
-    ensures { IfOk result (λ different. IsTrue different ↔ AreDifferent (all_names (plain_names names.now))) }
+    ensures { IfOk result
+        (λ different. IsTrue different ↔ AreDifferent (all_names (plain_names names.now))) }
 {
     let mut all = Vec::new(alloc);
     all.push(names.first)?;
@@ -53,7 +55,9 @@ fn are_different_in_set(alloc: Global, names: &Names<'_>) -> Result<bool, Memory
 
 /// The place of the table of this name, from 0; None where no table has it.
 pub fn place_of_table(tables: &Tables, name: &[u8]) -> Option<u8>
-    ensures some { IfSome result (λ place. (place ≡ place_of (names_of tables.now.tables) name.now) × (place < length tables.now.tables)) }
+    ensures some { IfSome result
+        (λ place. (place ≡ place_of (names_of tables.now.tables) name.now)
+        × (place < length tables.now.tables)) }
     ensures none { IfNone result (Contains (names_of tables.now.tables) name.now → ⊥) }
 {
     tables.find(name)
@@ -135,7 +139,8 @@ fn is_life(lives: &[LifeLine], name: &[u8]) -> bool
 
 // Whether each of the names is that of a life.
 fn are_lives(lives: &[LifeLine], names: &[&[u8]]) -> bool
-    ensures { IsTrue result ↔ All (λ name. Contains (life_names lives.now) name) (map (λ name. name.now) names.now) }
+    ensures { IsTrue result
+        ↔ All (λ name. Contains (life_names lives.now) name) (map (λ name. name.now) names.now) }
 {
     for name in names {
         if !is_life(lives, name) {
@@ -171,7 +176,8 @@ fn is_cause(tables: &Tables, name: &[u8]) -> bool
 
 // Whether each of the names is that of a cause.
 fn are_causes(tables: &Tables, names: &[&[u8]]) -> bool
-    ensures { IsTrue result ↔ All (λ name. Contains tables.now.causes name) (map (λ name. name.now) names.now) }
+    ensures { IsTrue result
+        ↔ All (λ name. Contains tables.now.causes name) (map (λ name. name.now) names.now) }
 {
     for name in names {
         if !is_cause(tables, name) {

@@ -38,7 +38,8 @@ pub fn pay_from(
     requires amount { IsUpTo (10 ^ 10) amount.now }
     requires usable { IsUsableSymbol (life_names lives.now) (plain_symbol symbol.now) }
     requires few { length lives.now ≤ 12 }
-    ensures { IfOk result (λ pay. pay_of pay ≡ pay_written (life_names lives.now) tables.now.causes amount.now (plain_symbol symbol.now)) }
+    ensures { IfOk result (λ pay. pay_of pay
+        ≡ pay_written (life_names lives.now) tables.now.causes amount.now (plain_symbol symbol.now)) }
 {
     Ok(Pay {
         amount: number_within(amount, GREATEST_AMOUNT),
@@ -88,7 +89,8 @@ fn causes_from(symbol: &Symbol<'_>, tables: &Tables) -> Option<u8>
 fn content_from(alloc: Global, symbol: &Symbol<'_>, lives: &[LifeLine]) -> Result<Status, Memory>
     requires usable { IsUsableSymbol (life_names lives.now) (plain_symbol symbol.now) }
     requires few { length lives.now ≤ 12 }
-    ensures { IfOk result (λ status. tree_of status ≡ tree_of_symbol (place_of (life_names lives.now)) (plain_symbol symbol.now)) }
+    ensures { IfOk result (λ status. tree_of status
+        ≡ tree_of_symbol (place_of (life_names lives.now)) (plain_symbol symbol.now)) }
 {
     match (&symbol.mark, &symbol.body) {
         (Some(_), Body::List(members)) => Ok(Status::Joint(members_from(alloc, members, lives)?)),

@@ -48,7 +48,9 @@ fn is_comment(word: &[u8]) -> bool
 /// [`halo_symbol::MOST_NESTING`] deep in it, which is only where those of the text open too far.
 pub fn read_line(alloc: Global, text: &[u8]) -> Result<Option<Line<'_>>, WordError>
     ensures silent { IfOk result
-        (λ read. MatchOption read (IsSilent text.now) (λ _. is_silent (words_of text.now) ≡ false)) }
+        (λ read. MatchOption read
+        (IsSilent text.now)
+        (λ _. is_silent (words_of text.now) ≡ false)) }
     ensures spelled { IfOk result
         (λ read. IfSome read (λ line. SpellsLine (words_of text.now) (plain_line line))) }
     ensures speaks { result ≡ Err WordError.Syntax → is_silent (words_of text.now) ≡ false }

@@ -23,7 +23,8 @@ use std::alloc::Global;
 pub fn status_from(alloc: Global, body: &Body<'_>, lives: &[LifeLine]) -> Result<Status, Memory>
     requires usable { IsUsableBody (life_names lives.now) (plain_body body.now) }
     requires few { length lives.now ≤ 12 }
-    ensures { IfOk result (λ status. tree_of status ≡ tree_of_body (place_of (life_names lives.now)) (plain_body body.now)) }
+    ensures { IfOk result
+        (λ status. tree_of status ≡ tree_of_body (place_of (life_names lives.now)) (plain_body body.now)) }
 {
     match body {
         Body::List(members) => list_from(alloc, members, lives),
@@ -44,7 +45,9 @@ fn list_from(
 ) -> Result<Status, Memory>
     requires usable { AreUsable (life_names lives.now) (plain_members members.now) }
     requires few { length lives.now ≤ 12 }
-    ensures { IfOk result (λ status. tree_of status ≡ tree_of_list (place_of (life_names lives.now)) (plain_members members.now)) }
+    ensures { IfOk result
+        (λ status. tree_of status
+        ≡ tree_of_list (place_of (life_names lives.now)) (plain_members members.now)) }
 {
     if members.others.is_empty() {
         member_from(alloc, &members.first, lives)
@@ -62,7 +65,9 @@ pub fn members_from(
 ) -> Result<Members, Memory>
     requires usable { AreUsable (life_names lives.now) (plain_members members.now) }
     requires few { length lives.now ≤ 12 }
-    ensures { IfOk result (λ all. trees_in all ≡ trees_of_members (place_of (life_names lives.now)) (plain_members members.now)) }
+    ensures { IfOk result
+        (λ all. trees_in all
+        ≡ trees_of_members (place_of (life_names lives.now)) (plain_members members.now)) }
 {
     let mut all = Members::new(alloc, member_from(alloc, &members.first, lives)?)?;
     for member in &members.others {
@@ -77,7 +82,8 @@ pub fn members_from(
 fn member_from(alloc: Global, member: &Node<'_>, lives: &[LifeLine]) -> Result<Status, Memory>
     requires usable { IsUsable (life_names lives.now) (plain_node member.now) }
     requires few { length lives.now ≤ 12 }
-    ensures { IfOk result (λ status. tree_of status ≡ tree_of_node (place_of (life_names lives.now)) (plain_node member.now)) }
+    ensures { IfOk result
+        (λ status. tree_of status ≡ tree_of_node (place_of (life_names lives.now)) (plain_node member.now)) }
 {
     match member {
         Node::Life(name) => Ok(Status::Life(number_of_life(lives, name))),

@@ -6,7 +6,7 @@ ghost use Rattle.halo_status.specs.Tree.{Trees, joint, member_count};
 ghost use Rattle.halo_status.specs.ValidPay.{AreApart, IsRank};
 ghost use Rattle.halo_table.specs.DecrementTable.{HasRow, TableFile, last_age_of};
 ghost use Rattle.halo_parse.specs.Addition.{Adds, IsKept, NamesLowLives};
-ghost use Rattle.halo_parse.specs.Checks.{AreAliveThen, ExistsAtStart, FailsFirst, HasRanks, IsLastingLine, IsWithinLimits, OfMembers, PassesAll, SharesNothingMarked};
+ghost use Rattle.halo_parse.specs.Checks.{AreAliveThen, IsAliveIfNamed, ExistsAtStart, FailsFirst, HasRanks, IsLastingLine, IsWithinLimits, OfMembers, PassesAll, SharesNothingMarked};
 ghost use Rattle.halo_parse.specs.Draft.{Draft as PlainDraft};
 ghost use Rattle.halo_parse.specs.Line.{Line as PlainLine};
 ghost use Rattle.halo_parse.specs.LineView.{draft_of, plain_line};
@@ -31,7 +31,8 @@ const ALL_LIVES: u16 = u16::MAX;
 /// Rank: whether the number of each `at least`, each `exactly` and of a mark is from 1 to the
 /// number of members of its list.
 pub fn has_ranks_added(addition: &Addition) -> bool
-    ensures { (tables : TableFile) (d : PlainDraft) (l : PlainLine) → Adds tables d l addition.now → (IsTrue result ↔ HasRanks d l) }
+    ensures { (tables : TableFile) (d : PlainDraft) (l : PlainLine)
+        → Adds tables d l addition.now → (IsTrue result ↔ HasRanks d l) }
 {
     match addition {
         Addition::Pay(pay) => has_ranks(&pay.body) && has_marked_rank(pay),
@@ -62,7 +63,8 @@ fn joint_members(status: &Status) -> Option<&Members>
 
 // Whether the number of a mark is a rank in the marked list.
 fn has_marked_rank(pay: &Pay) -> bool
-    ensures { IsTrue result ↔ IfSome pay.now.mark (λ mark. OfMembers (λ ms. IsRank mark.rank (member_count ms)) (tree_of pay.now.body)) }
+    ensures { IsTrue result ↔ IfSome pay.now.mark
+        (λ mark. OfMembers (λ ms. IsRank mark.rank (member_count ms)) (tree_of pay.now.body)) }
 {
     let Some(mark) = &pay.mark else {
         return true;
@@ -75,7 +77,8 @@ fn has_marked_rank(pay: &Pay) -> bool
 
 /// `NotLasting`: whether the body of an insurance is lasting.
 pub fn is_lasting_added(addition: &Addition) -> bool
-    ensures { (tables : TableFile) (d : PlainDraft) (l : PlainLine) → Adds tables d l addition.now → (IsTrue result ↔ IsLastingLine d l) }
+    ensures { (tables : TableFile) (d : PlainDraft) (l : PlainLine)
+        → Adds tables d l addition.now → (IsTrue result ↔ IsLastingLine d l) }
 {
     match addition {
         Addition::Pay(pay) => pay.kind != Kind::Insurance || pay.body.lasting(),
@@ -90,7 +93,8 @@ pub fn is_lasting_added(addition: &Addition) -> bool
 /// Shared: whether in a marked list no two different members name the same life or the same term.
 pub fn shares_nothing_added(addition: &Addition) -> bool
     requires { NamesLowLives addition.now }
-    ensures { (tables : TableFile) (d : PlainDraft) (l : PlainLine) → Adds tables d l addition.now → (IsTrue result ↔ SharesNothingMarked d l) }
+    ensures { (tables : TableFile) (d : PlainDraft) (l : PlainLine)
+        → Adds tables d l addition.now → (IsTrue result ↔ SharesNothingMarked d l) }
 {
     match addition {
         Addition::Pay(pay) => has_members_apart(pay),
@@ -119,7 +123,8 @@ fn has_members_apart(pay: &Pay) -> bool
 /// `NotAtStart`: whether the status of a premium exists at time 0 with all lives alive.
 pub fn exists_at_start(addition: &Addition) -> bool
     requires { NamesLowLives addition.now }
-    ensures { (tables : TableFile) (d : PlainDraft) (l : PlainLine) → Adds tables d l addition.now → (IsTrue result ↔ ExistsAtStart d l) }
+    ensures { (tables : TableFile) (d : PlainDraft) (l : PlainLine)
+        → Adds tables d l addition.now → (IsTrue result ↔ ExistsAtStart d l) }
 {
     match addition {
         Addition::Premium(pay) => pay.body.exists(ALL_LIVES, View::Due, 0),
@@ -154,7 +159,8 @@ pub fn are_alive_then(tables: &Tables, draft: &Draft, line: &Line<'_>) -> bool
 fn are_lives_alive(tables: &Tables, lives: &[LifeLine], time: u16, names: &[&[u8]]) -> bool
     requires rows { All (λ declared. HasRow tables.now declared.life.table declared.life.age) lives.now }
     requires time { time ≤ 200 }
-    ensures { IsTrue result ↔ All (λ declared. Contains (map (λ name. name.now) names.now) declared.name → declared.life.age + time ≤ last_age_of tables.now declared.life.table) lives.now }
+    ensures { IsTrue result
+        ↔ All (IsAliveIfNamed tables.now (map (λ name. name.now) names.now) time) lives.now }
 {
     for declared in lives {
         if !is_alive_if_named(tables, declared, time, names) {
@@ -168,7 +174,8 @@ fn are_lives_alive(tables: &Tables, lives: &[LifeLine], time: u16, names: &[&[u8
 fn is_alive_if_named(tables: &Tables, declared: &LifeLine, time: u16, names: &[&[u8]]) -> bool
     requires row { HasRow tables.now declared.now.life.table declared.now.life.age }
     requires time { time ≤ 200 }
-    ensures { IsTrue result ↔ (Contains (map (λ name. name.now) names.now) declared.now.name → declared.now.life.age + time ≤ last_age_of tables.now declared.now.life.table) }
+    ensures { IsTrue result
+        ↔ IsAliveIfNamed tables.now (map (λ name. name.now) names.now) time declared.now }
 {
     !is_among(names, declared.name.bytes()) || is_alive_at(tables, &declared.life, time)
 }
@@ -192,9 +199,11 @@ pub fn check_statuses(
 ) -> Result<(), ContractKind>
     requires proper { IsProperLine (plain_line line.now) }
     requires kept { IsKept tables.now (draft_of draft.now) }
-    requires passes { PassesBefore tables.now (draft_of draft.now) (plain_line line.now) ContractKind.Rank }
+    requires passes { PassesBefore tables.now (draft_of draft.now) (plain_line line.now)
+        ContractKind.Rank }
     requires adds { Adds tables.now (draft_of draft.now) (plain_line line.now) addition.now }
-    ensures ok { IfOk result (λ _. PassesAll tables.now (draft_of draft.now) (plain_line line.now)) }
+    ensures ok { IfOk result
+        (λ _. PassesAll tables.now (draft_of draft.now) (plain_line line.now)) }
     ensures err { IfErr result (FailsFirst tables.now (draft_of draft.now) (plain_line line.now)) }
 {
     if !has_ranks_added(addition) {

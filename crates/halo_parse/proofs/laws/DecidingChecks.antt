@@ -16,13 +16,12 @@ use Rattle.halo_status.specs.declared.view.View.TheVariants.{Due}
 use Rattle.halo_symbol.specs.Symbol.{Mark, Names}
 use Rattle.halo_table.proofs.Deciding.{dec_contains, dec_if}
 use Rattle.halo_text.specs.Number.{number}
-use Rattle.halo_parse.specs.Checks.{AreAliveThen, AreDifferent, ExistsAtStart, HasAge, HasCauses, HasLives, HasNoZero, HasRanks, HasRisingYears, HasTable, IsLastingLine, IsOnce, IsSome, IsWithinLimits, OfMembers, Passes, SharesNothingMarked, YearsRise, status_tree, symbol_tree, year_at}
+use Rattle.halo_parse.specs.Checks.{AreAliveThen, AreDifferent, ExistsAtStart, HasAge, HasCauses, HasLives, HasNoZero, HasRanks, HasRisingYears, HasTable, IsAliveIfNamed, IsLastingLine, IsOnce, IsSome, IsWithinLimits, OfMembers, Passes, SharesNothingMarked, YearsRise, status_tree, symbol_tree, year_at}
 use Rattle.halo_parse.specs.Draft.{Draft, all_names, place_of}
 use Rattle.halo_contract.specs.PlainContract.{amount_of_all, life_names}
 use Rattle.halo_parse.specs.Forms.{CameBefore, IsInOrder, form_of, place_of_form}
 use Rattle.halo_parse.specs.Limits.{IsRateWithin, IsShortName}
 use Rattle.halo_parse.specs.Line.{Line, LaterRate, interest, life, ties, pay, premium, reserve}
-use Rattle.halo_contract.specs.declared.contract.LifeLine.{LifeLine}
 use Rattle.halo_parse.specs.declared.fault.ContractKind.{ContractKind}
 use Rattle.halo_parse.specs.declared.fault.ContractKind.TheVariants as kind
 use Rattle.halo_parse.specs.declared.form.Form.{Form}
@@ -151,7 +150,7 @@ dec_at_start d _ = yes tt
 
 -- NotAlive
 dec_alive : (tables : TableFile) (d : Draft) (l : Line) → Dec (AreAliveThen tables d l)
-dec_alive tables d (reserve time names) = dec_all (λ (declared : LifeLine). Contains names declared.name → declared.life.age + number time ≤ last_age_of tables declared.life.table)
+dec_alive tables d (reserve time names) = dec_all (IsAliveIfNamed tables names (number time))
     (λ declared. dec_if (dec_contains names declared.name) (dec_le (declared.life.age + number time) (last_age_of tables declared.life.table))) d.lives
 dec_alive tables d _ = yes tt
 
