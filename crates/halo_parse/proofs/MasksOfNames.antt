@@ -10,7 +10,8 @@ use Rattle.halo_parse.proofs.AmongNames.{among-Contains}
 
 pub mask_of_names-lt : (all names : List (List ℕ)) → mask_of_names all names < 2 ^ length all
 mask_of_names-lt all names =
-    subst (λ n. mask_of_names all names < 2 ^ n) (length-map all (is_among names)) (mask_of-lt (map (is_among names) all))
+    let among = is_among names in
+    subst (λ n. mask_of_names all names < 2 ^ n) (length-map all among) (mask_of-lt (map among all))
 
 pub causes_of-lt : (causes : List (List ℕ)) (names : Option Names)
     → IfSome (causes_of causes names) (λ mask. mask < 2 ^ length causes)

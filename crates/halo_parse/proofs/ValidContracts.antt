@@ -53,10 +53,14 @@ valid_at_first tables = record {
 -- thing that those say holds there
 module _ (d : Draft) (in_order : IsInOrder d form.Life) where
   no_pays : (P : PlainPay → Type 0) → All P d.pays
-  no_pays P i p within = let some : 0 < length d.pays = omega arith in absurd (omega (arith, in_order form.Pay some))
+  no_pays P i p within =
+      let some : 0 < length d.pays = omega arith in
+      absurd (omega (arith, in_order form.Pay some))
 
   no_reserves : (P : ReserveLine → Type 0) → All P d.reserves
-  no_reserves P i r within = let some : 0 < length d.reserves = omega arith in absurd (omega (arith, in_order form.Reserve some))
+  no_reserves P i r within =
+      let some : 0 < length d.reserves = omega arith in
+      absurd (omega (arith, in_order form.Reserve some))
 
   no_premium : (P : PlainPay → Type 0) → IfSome d.premium P
   no_premium P = none d.premium (λ some. omega (arith, in_order form.Premium some))
@@ -79,7 +83,8 @@ valid_by_line tables d (interest p q rates) proper passes before = record {
   reserves = before.reserves;
 }
 valid_by_line tables d (life name table age) proper passes before =
-    let added : LifeLine = record { name = name; life = record { table = place_of (names_of tables.tables) table; age = number age } } in
+    let place = place_of (names_of tables.tables) table in
+    let added : LifeLine = record { name = name; life = record { table = place; age = number age } } in
     let lives = d.lives ++ added ∷ [] in
     record {
       kept = kept_by_line tables d (life name table age) before.kept passes;
@@ -101,11 +106,12 @@ valid_by_line tables d (ties r) proper passes before = record {
 }
 valid_by_line tables d (pay amount s) proper passes before =
     let added = pay_written (life_names d.lives) tables.causes amount s in
+    let IsAmong = IsValidAmong (length d.lives) (length tables.causes) in
     record {
       kept = kept_by_line tables d (pay amount s) before.kept passes;
       interest = before.interest;
       few_pays = omega (arith, length_push d.pays added, (passes kind.Magnitude).2);
-      pays = All-push (IsValidAmong (length d.lives) (length tables.causes)) d.pays added before.pays (pays_are_valid tables d amount s proper passes);
+      pays = All-push IsAmong d.pays added before.pays (pays_are_valid tables d amount s proper passes);
       premium = before.premium;
       few_reserves = before.few_reserves;
       reserves = before.reserves;
@@ -121,6 +127,7 @@ valid_by_line tables d (premium body) proper passes before = record {
 }
 valid_by_line tables d (reserve time names) proper passes before =
     let added : ReserveLine = record { time = number time; alive = mask_of_names (life_names d.lives) names } in
+    let valid = valid_reserve tables d time names before.kept passes in
     record {
       kept = kept_by_line tables d (reserve time names) before.kept passes;
       interest = before.interest;
@@ -128,7 +135,7 @@ valid_by_line tables d (reserve time names) proper passes before =
       pays = before.pays;
       premium = before.premium;
       few_reserves = omega (arith, length_push d.reserves added, (passes kind.Magnitude).2);
-      reserves = All-push (IsValidReserve tables d.lives) d.reserves added before.reserves (valid_reserve tables d time names before.kept passes);
+      reserves = All-push (IsValidReserve tables d.lives) d.reserves added before.reserves valid;
     }
 
 valid_by_lines : (tables : TableFile) (d final : Draft) (texts : List (List ℕ)) → IsValidDraft tables d
@@ -136,14 +143,17 @@ valid_by_lines : (tables : TableFile) (d final : Draft) (texts : List (List ℕ)
 valid_by_lines tables d final [] before makes = subst (IsValidDraft tables) (sym makes) before
 valid_by_lines tables d final (text ∷ texts) before (inl silent) = valid_by_lines tables d final texts before silent.1
 valid_by_lines tables d final (text ∷ texts) before (inr (l, fine, rest)) =
-    valid_by_lines tables (with_line tables d l) final texts (valid_by_line tables d l fine.spells.proper fine.passes before) rest
+    let next = valid_by_line tables d l fine.spells.proper fine.passes before in
+    valid_by_lines tables (with_line tables d l) final texts next rest
 
-interest_made : (interest : Option (List Rate)) → interest ≢ None → IfSome interest IsInterest → IsInterest (unwrap_or interest [])
+interest_made : (interest : Option (List Rate)) → interest ≢ None → IfSome interest IsInterest
+    → IsInterest (unwrap_or interest [])
 interest_made None some valid = absurd (some refl)
 interest_made (Some rates) some valid = valid
 
 -- a whole draft that is valid makes a valid contract
-valid_made : (tables : TableFile) (d : Draft) → IsWhole d → IsValidDraft tables d → IsValidContract tables (contract_made d)
+valid_made : (tables : TableFile) (d : Draft) → IsWhole d → IsValidDraft tables d
+    → IsValidContract tables (contract_made d)
 valid_made tables d whole valid = record {
   interest = interest_made d.interest whole.interest valid.interest;
   some_lives = omega (arith, whole.life);

@@ -14,7 +14,8 @@ use Rattle.halo_parse.specs.declared.fault.ContractKind.TheVariants as kind
 no_digits : LaterRate
 no_digits = record { year = []; p = []; q = [] }
 
-module _ (tables : TableFile) (d : Draft) (p q : List ℕ) (rates : List LaterRate) (passes : PassesAll tables d (interest p q rates)) where
+module _ (tables : TableFile) (d : Draft) (p q : List ℕ) (rates : List LaterRate)
+    (passes : PassesAll tables d (interest p q rates)) where
   first : Rate
   first = record { year = 0; p = number p; q = number q }
 
@@ -34,11 +35,14 @@ module _ (tables : TableFile) (d : Draft) (p q : List ℕ) (rates : List LaterRa
 
   fraction_in : (i : ℕ) → i < length fractions → IsFraction (rate_at fractions i).p (rate_at fractions i).q
   unfolding fractions first
-  fraction_in zero within = record { p_in = (passes kind.Magnitude).0; q_from = (passes kind.Zero).0; q_in = (passes kind.Magnitude).1 }
+  fraction_in zero within =
+      let limits = passes kind.Magnitude in
+      record { p_in = limits.0; q_from = (passes kind.Zero).0; q_in = limits.1 }
   fraction_in (suc i) within =
       let inside : i < length rates = omega (arith, count) in
       let limits = (passes kind.Magnitude).2 i no_digits inside in
-      rw (later i inside) (record { p_in = limits.p; q_from = ((passes kind.Zero).1 i no_digits inside).1; q_in = limits.q })
+      let some = (passes kind.Zero).1 i no_digits inside in
+      rw (later i inside) (record { p_in = limits.p; q_from = some.1; q_in = limits.q })
 
   year_in : (i : ℕ) → i < length fractions → (rate_at fractions i).year ≤ 199
   unfolding fractions first

@@ -42,23 +42,30 @@ mask_of-some (b ∷ bs) zero below passes = let here : b ≡ true = passes in rw
 mask_of-some (b ∷ bs) (suc k) below passes = omega (arith, mask_of-some bs k (omega arith) passes)
 
 -- a set whose first name is a cause has a cause
-some_cause : (causes : List (List ℕ)) (names : Names) → Contains causes names.first → 1 ≤ mask_of_names causes (all_names names)
+some_cause : (causes : List (List ℕ)) (names : Names) → Contains causes names.first
+    → 1 ≤ mask_of_names causes (all_names names)
 some_cause causes names (k, below, is) =
     let among = is_among (all_names names) in
-    let first : among (get_or causes k names.first) ≡ true = rw (is, (bytes_eq-Decides names.first names.first).1 refl) in
-    mask_of-some (map among causes) k (omega (arith, length-map causes among)) (get_or-map among causes k names.first false below ∙ first)
+    let same = (bytes_eq-Decides names.first names.first).1 refl in
+    let first : among (get_or causes k names.first) ≡ true = rw (is, same) in
+    let passes = get_or-map among causes k names.first false below ∙ first in
+    mask_of-some (map among causes) k (omega (arith, length-map causes among)) passes
 
-valid_causes : (causes : List (List ℕ)) (kind : Kind) (names : Option Names) → MayHaveCauses kind names → IfSome names (λ names. All (λ name. Contains causes name) (all_names names))
+valid_causes : (causes : List (List ℕ)) (kind : Kind) (names : Option Names) → MayHaveCauses kind names
+    → IfSome names (λ names. All (λ name. Contains causes name) (all_names names))
     → IfSome (causes_of causes names) (λ mask. (kind ≡ Insurance) × (1 ≤ mask))
 valid_causes causes kind None allowed known = tt
-valid_causes causes kind (Some names) allowed known = (allowed, some_cause causes names (All-head (λ name. Contains causes name) names.first names.others known))
+valid_causes causes kind (Some names) allowed known =
+    (allowed, some_cause causes names (All-head (λ name. Contains causes name) names.first names.others known))
 
 valid_mark : (life_of : List ℕ → ℕ) (kind : Kind) (mark : Option Mark) (body : Body) → MayHaveMark kind mark body
-    → IfSome mark (λ m. OfMembers (λ ms. IsRank (number m.rank) (status.member_count ms)) (tree_of_content life_of mark body))
+    → IfSome mark (λ m.
+    OfMembers (λ ms. IsRank (number m.rank) (status.member_count ms)) (tree_of_content life_of mark body))
     → IfSome mark (λ m. OfMembers AreApart (tree_of_content life_of mark body))
     → IfSome (mark_of mark) (λ valid. (kind ≡ Insurance) × CanBeMarked (tree_of_content life_of mark body) valid)
 valid_mark life_of kind None body allowed rank apart = tt
-valid_mark life_of kind (Some mark) (list ms) allowed rank apart = (allowed.0, record { member = omega (arith, member_count-trees life_of ms, allowed.1); rank = rank; apart = apart })
+valid_mark life_of kind (Some mark) (list ms) allowed rank apart =
+    (allowed.0, record { member = omega (arith, member_count-trees life_of ms, allowed.1); rank = rank; apart = apart })
 valid_mark life_of kind (Some mark) (reversion ms ns) allowed rank apart = absurd allowed.1
 
 pub pays_are_valid : PaysAreValid
@@ -79,7 +86,8 @@ pays_are_valid tables d amount s proper passes =
         ranks = (passes kind.Rank).0;
         lasting = passes kind.NotLasting;
         causes = valid_causes tables.causes s.kind s.causes symbol.allowed.causes (passes kind.NoCause);
-        mark = valid_mark (place_of names) s.kind s.mark s.body symbol.allowed.mark (passes kind.Rank).1 (passes kind.Shared);
+        mark =
+            valid_mark (place_of names) s.kind s.mark s.body symbol.allowed.mark (passes kind.Rank).1 (passes kind.Shared);
       };
       named = rw (← length-map d.lives (λ line. line.name)) (placed-content names s.mark s.body (passes kind.NoLife));
       by_cause = causes_of-lt tables.causes s.causes;

@@ -25,14 +25,16 @@ pub valid_reserve : (tables : TableFile) (d : Draft) (time : List ℕ) (names : 
     → IsValidReserve tables d.lives (record { time = number time; alive = mask_of_names (life_names d.lives) names })
 valid_reserve tables d time names kept passes =
     let all = life_names d.lives in
-    let count = length-map d.lives (λ (line : LifeLine). line.name) in
+    let name_of_line : LifeLine → List ℕ = λ line. line.name in
+    let count = length-map d.lives name_of_line in
     record {
       time_in = (passes kind.Magnitude).0;
       declared = subst (λ n. mask_of_names all names < 2 ^ n) count (mask_of_names-lt all names);
       alive = λ i declared at set.
           let within = slice_get_within d.lives i declared at in
           let here = get_or_from_slice_get d.lives i declared declared at in
-          let named = get_or-map (λ (line : LifeLine). line.name) d.lives i declared [] within ∙ ap (λ (line : LifeLine). line.name) here in
+          let named = get_or-map name_of_line d.lives i declared [] within ∙ ap name_of_line here in
           let among = rw named at (among_of_bit all names i (omega (arith, count)) set) in
-          later_row tables (number time) declared (rw here at (kept.rows i declared within)) (rw here at (passes kind.NotAlive i declared within) among);
+          let row = rw here at (kept.rows i declared within) in
+          later_row tables (number time) declared row (rw here at (passes kind.NotAlive i declared within) among);
     }

@@ -25,7 +25,8 @@ pub fn check_writing(
     requires proper { IsProperLine (plain_line line.now) }
     requires amounts { amount_of_all (draft_of draft.now).pays ≤ 10 ^ 10 }
     ensures ok { IfOk result
-        (λ _. PassesBefore tables.now (draft_of draft.now) (plain_line line.now) ContractKind.Rank) }
+        (λ _. PassesBefore tables.now (draft_of draft.now) (plain_line line.now)
+        ContractKind.Rank) }
     ensures err { IfErr result (FailsWith tables.now (draft_of draft.now) (plain_line line.now)) }
 {
     if !is_within_limits(draft, line) {

@@ -44,7 +44,8 @@ pub fn body_passes<T: PartTest>(test: &T, body: &Body<'_>) -> bool
 fn list_passes<T: PartTest>(test: &T, members: &Members<'_>) -> bool
     requires { AreProper (plain_members members.now) }
     ensures { IsTrue result ↔ (T.list_fact test.now (plain_members members.now)
-        × AtEachMember (T.member_fact test.now) (T.list_fact test.now) (plain_members members.now)) }
+        × AtEachMember (T.member_fact test.now) (T.list_fact test.now)
+        (plain_members members.now)) }
 {
     test.passes_list(members) && members_pass(test, members)
 }

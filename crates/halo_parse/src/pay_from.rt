@@ -38,8 +38,9 @@ pub fn pay_from(
     requires amount { IsUpTo (10 ^ 10) amount.now }
     requires usable { IsUsableSymbol (life_names lives.now) (plain_symbol symbol.now) }
     requires few { length lives.now ≤ 12 }
-    ensures { IfOk result (λ pay. pay_of pay
-        ≡ pay_written (life_names lives.now) tables.now.causes amount.now (plain_symbol symbol.now)) }
+    ensures { let lives = life_names lives.now in
+        IfOk result (λ pay. pay_of pay
+        ≡ pay_written lives tables.now.causes amount.now (plain_symbol symbol.now)) }
 {
     Ok(Pay {
         amount: number_within(amount, GREATEST_AMOUNT),

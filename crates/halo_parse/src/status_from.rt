@@ -24,7 +24,8 @@ pub fn status_from(alloc: Global, body: &Body<'_>, lives: &[LifeLine]) -> Result
     requires usable { IsUsableBody (life_names lives.now) (plain_body body.now) }
     requires few { length lives.now ≤ 12 }
     ensures { IfOk result
-        (λ status. tree_of status ≡ tree_of_body (place_of (life_names lives.now)) (plain_body body.now)) }
+        (λ status. tree_of status
+        ≡ tree_of_body (place_of (life_names lives.now)) (plain_body body.now)) }
 {
     match body {
         Body::List(members) => list_from(alloc, members, lives),
@@ -83,7 +84,8 @@ fn member_from(alloc: Global, member: &Node<'_>, lives: &[LifeLine]) -> Result<S
     requires usable { IsUsable (life_names lives.now) (plain_node member.now) }
     requires few { length lives.now ≤ 12 }
     ensures { IfOk result
-        (λ status. tree_of status ≡ tree_of_node (place_of (life_names lives.now)) (plain_node member.now)) }
+        (λ status. tree_of status
+        ≡ tree_of_node (place_of (life_names lives.now)) (plain_node member.now)) }
 {
     match member {
         Node::Life(name) => Ok(Status::Life(number_of_life(lives, name))),

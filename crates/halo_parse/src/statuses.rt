@@ -157,7 +157,8 @@ pub fn are_alive_then(tables: &Tables, draft: &Draft, line: &Line<'_>) -> bool
 
 // Whether each life that has one of the names has a row at its age plus the time.
 fn are_lives_alive(tables: &Tables, lives: &[LifeLine], time: u16, names: &[&[u8]]) -> bool
-    requires rows { All (λ declared. HasRow tables.now declared.life.table declared.life.age) lives.now }
+    requires rows { All (λ declared. HasRow tables.now declared.life.table declared.life.age)
+        lives.now }
     requires time { time ≤ 200 }
     ensures { IsTrue result
         ↔ All (IsAliveIfNamed tables.now (map (λ name. name.now) names.now) time) lives.now }

@@ -25,7 +25,8 @@ dec_shallow line = map_dec (λ each n within. each n (omega arith)) (λ shallow 
 
 -- a draft that is a contract, or not
 dec_whole : (d : Draft) → Dec (IsWhole d)
-dec_whole d = map_dec (λ h. record { interest = h.0; life = h.1; pay = h.2 }) (λ whole. (whole.interest, whole.life, whole.pay))
+dec_whole d =
+    map_dec (λ h. record { interest = h.0; life = h.1; pay = h.2 }) (λ whole. (whole.interest, whole.life, whole.pay))
     (dec_three (dec_some d.interest) (dec_lt 0 (length d.lives)) (dec_lt 0 (length d.pays)))
 
 -- a text that is one line, or has a fault
@@ -50,11 +51,16 @@ module _ (tables : TableFile) (d : Draft) (text : List ℕ) where
   ]
 
   text_choice : IsSilent text ⊎ SpokenChoice tables d text
-  text_choice = elim (cases_Bool (is_silent (words_of text))) [ inl silent ↦ inl silent | inr speaks ↦ inr (spoken_choice speaks) ]
+  text_choice =
+      elim (cases_Bool (is_silent (words_of text))) [
+        | inl silent ↦ inl silent
+        | inr speaks ↦ inr (spoken_choice speaks)
+      ]
 
 -- some lines make a draft, or have a first fault
 lines_choice : (tables : TableFile) (d : Draft) (count : ℕ) (texts : List (List ℕ))
-    → ((final : Draft) × MakesDraft tables d texts final) ⊎ ((line : ℕ) × (k : ContractKind) × FirstFaultOf tables d count texts line k)
+    → ((final : Draft) × MakesDraft tables d texts final)
+    ⊎ ((line : ℕ) × (k : ContractKind) × FirstFaultOf tables d count texts line k)
 lines_choice tables d count [] = inl (d, refl)
 lines_choice tables d count (text ∷ texts) = elim (text_choice tables d text) [
   | inl silent ↦ elim (lines_choice tables d (count + 1) texts) [
@@ -73,6 +79,16 @@ contract_or_fault tables bytes = elim (lines_choice tables empty_draft 1 (lines_
   | inr (line, k, fault) ↦ inr (line, k, inl fault)
   | inl (final, makes) ↦ elim (dec_whole final) [
     | yes whole ↦ inl (contract_made final, record { draft = final; lines = makes; whole = whole; made = refl })
-    | no lacks ↦ inr (length (lines_of bytes) + 1, kind.Missing, inr (record { draft = final; lines = makes; not_whole = lacks; number_is = refl; kind_is = refl }))
+    | no lacks ↦ inr (
+      length (lines_of bytes) + 1,
+      kind.Missing,
+      inr (record {
+        draft = final;
+        lines = makes;
+        not_whole = lacks;
+        number_is = refl;
+        kind_is = refl;
+      }),
+    )
   ]
 ]
