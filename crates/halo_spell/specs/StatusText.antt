@@ -15,6 +15,10 @@ bytes_at at.Alone names s = body_bytes (canonical_body names s) []
 bytes_at at.Side names s = members_bytes (list_of (canonical_node names s)) []
 bytes_at at.Member names s = node_bytes (canonical_node names s) []
 
+-- the canonical text of a status by itself
+abbrev pub status_text : List (List ℕ) → Tree → List ℕ
+status_text names s = bytes_at at.Alone names s
+
 -- the bytes before the member at a place: `:`, but none before the first
 abbrev pub separator_at : ℕ → List ℕ
 separator_at zero = []

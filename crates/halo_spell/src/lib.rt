@@ -22,4 +22,4 @@ mod text;
 pub use contract::spell_contract;
 pub use decimals::decimal;
 pub use memory::Memory;
-pub use pay::spell_pay;
+pub use pay::{spell_pay, spell_status};
