@@ -6,7 +6,7 @@ ghost use Rattle.halo_sums.specs.Sets.{in_set};
 ghost use Rattle.halo_sums.specs.Sums.{indicator, sum_over};
 ghost use Rattle.halo_sums.specs.SetMasks.{CountsSets};
 ghost use Rattle.halo_poly.specs.Symmetric.{is_one};
-ghost use Rattle.halo_poly.specs.Poly.{EachOfSets, IsSmall, coefficient_at, coefficient_of, count_at, is_marked, value_on};
+ghost use Rattle.halo_poly.specs.Poly.{EachOfSets, IsPoly, IsSmall, coefficient_at, coefficient_of, count_at, is_marked, value_on};
 
 use crate::Memory;
 use crate::entries::{add_each, drop_each, sum_sizes, sum_within, take_each};
@@ -61,6 +61,14 @@ impl<const M: usize> Poly<M> {
         ensures small { IsSmall result }
     {
         self.coefficients[set as usize]
+    }
+
+    /// All coefficients, each at the mask of its set.
+    pub fn coefficients(&self) -> &[i64]
+        ensures same { result.now ≡ self.now }
+        ensures whole { IsPoly M result.now }
+    {
+        self.coefficients.as_slice()
     }
 
     /// Makes the coefficient of the empty set 1 and all others 0: the value is 1 on every set.
