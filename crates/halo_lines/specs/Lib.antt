@@ -1,3 +1,4 @@
 -- The definitions that the contracts of the lines cite.
 pub mod PayLines
+pub mod Report
 pub mod Values
