@@ -1,3 +1,4 @@
 mod Room
 mod PayByPay
 mod ReserveLines
+pub mod ContractReports

@@ -6,7 +6,9 @@ use Rattle.halo_num.specs.declared.nano.Nano.{Nano}
 use Rattle.halo_status.specs.Pay.{PlainPay}
 use Rattle.halo_status.specs.Tree.{Tree}
 use Rattle.halo_table.specs.DecrementTable.{TableFile}
+use Rattle.halo_table.specs.Sound.{IsSound}
 use Rattle.halo_contract.specs.PlainContract.{PlainContract}
+use Rattle.halo_contract.specs.ValidContract.{IsValidContract}
 use Rattle.halo_contract.specs.declared.contract.ReserveLine.{ReserveLine}
 use Rattle.halo_model.specs.Basis.{Basis}
 use Rattle.halo_model.specs.ContractBasis.{contract_basis, premium_status}
@@ -43,3 +45,9 @@ pub record EnclosesContract (tables : TableFile) (contract : PlainContract) (rep
       (premium_status contract) report.premium
   pub reserves : AreReserveLines (contract_basis tables contract) contract.pays
       (premium_status contract) contract.reserves report.reserves
+
+-- each contract that can be valued has a report that encloses it
+abbrev pub ContractsHaveReports : Type 0
+ContractsHaveReports = (tables : TableFile) → IsSound tables
+    → (contract : PlainContract) → IsValidContract tables contract
+    → (report : PlainReport) × EnclosesContract tables contract report
