@@ -1,11 +1,10 @@
 -- The text of columns tells what the columns are.
-use Rattle.std.proofs.Common.{◌≡◌, ℕ, suc, ◌+◌, ◌/◌, ◌≤◌, ◌<◌, arith, ℤ, pos, negsuc, neg_ℤ, ◌+ℤ◌, ◌≤ℤ◌}
+use Rattle.std.proofs.Common.{arith, ℤ, pos, negsuc}
 use Rattle.std.proofs.lemmas.Int.{ints}
-use Rattle.halo_num.specs.Ends.{Ends, printed}
+use Rattle.halo_num.specs.Ends.{printed}
 use Rattle.halo_num.specs.Rounding.{IsCeiling, IsFloor}
 use Rattle.halo_num.proofs.Rounded.{printed_encloses}
 use Rattle.halo_num.proofs.Widths.{width_printed}
-use Rattle.halo_columns.specs.Set.{EnclosesColumns}
 use Rattle.halo_report.specs.Laws.{ColumnsArePrintable, PrintedEntriesEnclose}
 use Rattle.halo_report.specs.Printed.{ceiling_of, floor_of}
 

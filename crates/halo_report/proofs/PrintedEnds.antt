@@ -1,7 +1,7 @@
 -- An interval that is printed has the floor of its lower end and the ceiling of its upper end.
-use Rattle.std.proofs.Common.{◌≡◌, suc, ◌+◌, ◌/◌, ◌^◌, ℤ, pos, negsuc, ◌≤ℤ◌, arith, ap, refl}
+use Rattle.std.proofs.Common.{◌≡◌, suc, ◌+◌, ◌/◌, ℤ, pos, negsuc, ◌≤ℤ◌, arith, ap, refl}
 use Rattle.std.proofs.lemmas.Int.{ints}
-use Rattle.halo_num.specs.Ends.{Ends, IsWithin, printed}
+use Rattle.halo_num.specs.Ends.{Ends, printed}
 use Rattle.halo_num.specs.Rounding.{IsCeiling, IsFloor}
 use Rattle.halo_num.specs.declared.nano.Nano.{Nano}
 use Rattle.halo_report.specs.ColumnsText.{IsPrintableEntry}

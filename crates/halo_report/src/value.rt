@@ -1,7 +1,7 @@
 // The report of the command `value`.
-ghost use Rattle.std.specs.Prelude.{◌≡◌, ◌++◌, ◌^◌, ◌≤◌, ◌<◌, All, IfOk, IfSome, OnOk, codes, length};
+ghost use Rattle.std.specs.Prelude.{◌≡◌, ◌++◌, All, IfOk, OnOk};
 ghost use Rattle.halo_report.specs.Lines.{IsPrintable, value_line, numbered_lines};
-ghost use Rattle.halo_report.specs.ValueText.{premium_lines, report_text};
+ghost use Rattle.halo_report.specs.ValueText.{IsPrintableReport, report_of, report_text};
 
 use crate::Memory;
 use crate::text::{write_bytes, write_ends, write_number};
@@ -26,13 +26,8 @@ pub struct ValueReport {
 /// is one, and `reserve` and its number for each reserve, each with the two ends. Each end is at
 /// most 10^36 in size.
 pub fn value_text(alloc: Global, report: &ValueReport) -> Result<Vec<u8>, Memory>
-    requires pays { All IsPrintable report.now.pays.items }
-    requires total { IsPrintable report.now.total }
-    requires premium { IfSome report.now.premium IsPrintable }
-    requires reserves { All IsPrintable report.now.reserves.items }
-    ensures { IfOk result (λ text. text.items
-        ≡ report_text report.now.pays.items report.now.total report.now.premium
-        report.now.reserves.items) }
+    requires { IsPrintableReport (report_of report.now) }
+    ensures { IfOk result (λ text. text.items ≡ report_text (report_of report.now)) }
 {
     let mut text = Vec::new(alloc);
     write_numbered(b"pay", &report.pays, &mut text)?;
