@@ -1,10 +1,12 @@
-mod CanonicalContract
 mod Amounts
 mod Calls
 mod Files
+mod OneAnswer
+mod OneLifeContract
 mod OneLifeDue
-mod OneStatus
+mod OneLifeForm
+mod OnePay
+mod Runs
+mod SomeAnswer
 mod Told
 mod Words
-mod OneLifeContract
-mod OnePay

@@ -2,7 +2,8 @@
 use Rattle.std.proofs.Common.{◌≡◌, ◌<◌, ◌≤◌, List, [], ◌∷◌, map, length, get_or, string_bytes, Global, arith, refl}
 use Rattle.std.specs.Prelude.{String}
 
-pub three_words : (words : List (String Global)) (a b c : String Global) → 3 ≤ length words → length words < 4 → a ≡ get_or words 0 a → b ≡ get_or words 1 b → c ≡ get_or words 2 c
+pub three_words : (words : List (String Global)) (a b c : String Global) → 3 ≤ length words → length words < 4 → a
+    ≡ get_or words 0 a → b ≡ get_or words 1 b → c ≡ get_or words 2 c
     → map string_bytes words ≡ string_bytes a ∷ string_bytes b ∷ string_bytes c ∷ []
 three_words [] a b c low high p q r = absurd (omega arith)
 three_words (x ∷ []) a b c low high p q r = absurd (omega arith)

@@ -9,13 +9,15 @@ abbrev pub task_word : Task → List ℕ
 task_word task.Value = codes "value"
 task_word task.Check = codes "check"
 
--- `value T C` or `check T C`: what to write of the contract in the file C, with the tables in the file T
+-- `value T C` or `check T C`: what to write of the contract in the file C, with the tables in the
+-- file T
 abbrev pub Asks : List (List ℕ) → Task → List ℕ → List ℕ → Type 0
 Asks words t tables contract = words ≡ task_word t ∷ tables ∷ contract ∷ []
 
 -- the words are a command that is built
 abbrev pub IsCommand : List (List ℕ) → Type 0
-IsCommand words = (t : Task) × (tables : List ℕ) × (contract : List ℕ) × Asks words t tables contract
+IsCommand words = (t : Task) × (tables : List ℕ) × (contract : List ℕ)
+    × Asks words t tables contract
 
 -- the command that the words are, or none where they are no command
 abbrev pub ReadsWords : List (List ℕ) → Option Command → Type 0

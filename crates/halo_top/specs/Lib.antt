@@ -1,7 +1,8 @@
+-- The definitions that the contracts of a run cite.
 pub mod Command
 pub mod Input
 pub mod OneLife
-pub mod ExactValue
 pub mod Refusal
-pub mod Report
 pub mod Verdict
+pub mod Run
+pub mod Laws

@@ -47,13 +47,16 @@ contract_kind_word wrong.NotAtStart = codes "NotAtStart"
 contract_kind_word wrong.NotAlive = codes "NotAlive"
 contract_kind_word wrong.Missing = codes "Missing"
 
--- the line that a refusal writes, without its line feed: the fault of a file is told with the number of the record or the line, from 1
+-- the line that a refusal writes, without its line feed: the fault of a file is told with the
+-- number of the record or the line, from 1
 abbrev pub words_of : Refusal → List ℕ
 words_of refusal.Usage = codes "usage: halo value T C, check T C, compile T C, explain T C, columns T NAME P/Q, sample N"
 words_of (refusal.Read f) = codes "read fault " ++ file_word f
 words_of (refusal.TooLong f) = codes "too long " ++ file_word f
-words_of (refusal.Table fault) = codes "tables record " ++ decimal fault.row ++ codes " " ++ kind_word fault.kind
-words_of (refusal.Contract fault) = codes "contract line " ++ decimal fault.line ++ codes " " ++ contract_kind_word fault.kind
+words_of (refusal.Table fault) =
+    codes "tables record " ++ decimal fault.row ++ codes " " ++ kind_word fault.kind
+words_of (refusal.Contract fault) =
+    codes "contract line " ++ decimal fault.line ++ codes " " ++ contract_kind_word fault.kind
 words_of refusal.NotBuilt = codes "contract NotBuilt"
 
 -- the line that a refusal writes

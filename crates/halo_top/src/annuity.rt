@@ -1,9 +1,11 @@
 // The value of an annuity-due on one life.
-ghost use Rattle.std.specs.Prelude.{◌≡◌, ◌*◌, ◌<◌, ◌≤◌, ◌^◌, ℕ, length, pos};
-ghost use Rattle.halo_num.specs.Ends.{HasWidth, IsSized, IsWithin, fine};
-ghost use Rattle.halo_model.specs.Counts.{measures_of, width_count};
-ghost use Rattle.halo_top.specs.ExactValue.{EnclosesPay, EnclosesValue, due_pay, one_life_basis};
+ghost use Rattle.std.specs.Prelude.{◌*◌, ◌≤◌, ◌^◌, ℕ, pos};
+ghost use Rattle.halo_num.specs.Ends.{HasWidth, IsWithin, fine};
 ghost use Rattle.halo_table.specs.DecrementTable.{HasRow};
+ghost use Rattle.halo_model.specs.Counts.{measures_of, width_count};
+ghost use Rattle.halo_model.specs.Line.{IsPayLine};
+ghost use Rattle.halo_report.specs.Lines.{IsPrintable};
+ghost use Rattle.halo_top.specs.OneLife.{EnclosesValue, due_pay, one_life_basis};
 
 use crate::one_life::OneLife;
 use halo_interest::Interest;
@@ -23,8 +25,8 @@ fn annuity_due<L: Ledger>(
 ) -> Ival
     requires { HasRow tables.now life.now.table life.now.age }
     ensures encloses { EnclosesValue (one_life_basis tables.now interest.now life.now) (due_pay 1) result }
-    ensures narrow { (amount : ℕ) →
-        HasWidth result (width_count (measures_of (one_life_basis tables.now interest.now life.now) (due_pay amount))) }
+    ensures narrow { (amount : ℕ) → HasWidth result (width_count
+        (measures_of (one_life_basis tables.now interest.now life.now) (due_pay amount))) }
     ensures within { IsWithin result (pos 0) (pos (201 * fine)) }
 {
     let powers = interest.powers(steps);
@@ -39,15 +41,14 @@ fn annuity_due<L: Ledger>(
     value
 }
 
-/// The enclosure of a contract's payment as it is printed: around its exact value, and no wider than
-/// its count allows.
+/// The enclosure of a contract's payment as it is printed: around its exact value, and no wider
+/// than its count allows.
 pub fn payment_value<L: Ledger>(tables: &Tables, contract: &OneLife, steps: &mut Steps<L>) -> Nano
     requires life { HasRow tables.now contract.now.life.table contract.now.life.age }
     requires amount { contract.now.amount ≤ 10 ^ 10 }
-    ensures encloses { EnclosesPay (one_life_basis tables.now contract.now.interest contract.now.life)
+    ensures line { IsPayLine (one_life_basis tables.now contract.now.interest contract.now.life)
         (due_pay contract.now.amount) result }
-    ensures lo { IsSized result.lo (10 ^ 36) }
-    ensures hi { IsSized result.hi (10 ^ 36) }
+    ensures printable { IsPrintable result }
 {
     let annuity = annuity_due(tables, &contract.life, &contract.interest, steps);
     annuity.scale(contract.amount as i64).to_nano()

@@ -4,8 +4,8 @@ ghost use Rattle.halo_io.specs.Counts.{Rose};
 ghost use Rattle.halo_top.specs.Input.{LoadsContract, LoadsFile, LoadsTables, limit_of};
 
 use crate::refusal::{InputFile, Refusal, Stop};
-use halo_io::{LoadFault, Shelf, load};
 use halo_contract::Contract;
+use halo_io::{LoadFault, Shelf, load};
 use halo_parse::{ContractError, read_contract};
 use halo_table::{Tables, TablesError};
 use std::alloc::Global;
@@ -14,7 +14,8 @@ use std::alloc::Global;
 pub fn load_tables<S: Shelf>(alloc: Global, shelf: &mut S, name: &str) -> Result<Tables, Stop>
     ensures same { (n : List ℕ) → S.file shelf.new n ≡ S.file shelf.old n }
     ensures later { (n : List ℕ) → S.faults shelf.old n ≤ S.faults shelf.new n }
-    ensures tables { LoadsTables (S.file shelf.old name.now) (Rose (S.faults shelf.old name.now) (S.faults shelf.new name.now)) result }
+    ensures tables { LoadsTables (S.file shelf.old name.now)
+        (Rose (S.faults shelf.old name.now) (S.faults shelf.new name.now)) result }
 {
     let bytes = load_file(alloc, shelf, name, InputFile::Tables)?;
     match Tables::read(alloc, &bytes) {
@@ -33,7 +34,8 @@ pub fn load_contract<S: Shelf>(
 ) -> Result<Contract, Stop>
     ensures same { (n : List ℕ) → S.file shelf.new n ≡ S.file shelf.old n }
     ensures later { (n : List ℕ) → S.faults shelf.old n ≤ S.faults shelf.new n }
-    ensures contract { LoadsContract tables.now (S.file shelf.old name.now) (Rose (S.faults shelf.old name.now) (S.faults shelf.new name.now)) result }
+    ensures contract { LoadsContract tables.now (S.file shelf.old name.now)
+        (Rose (S.faults shelf.old name.now) (S.faults shelf.new name.now)) result }
 {
     let bytes = load_file(alloc, shelf, name, InputFile::Contract)?;
     match read_contract(alloc, &bytes, tables) {
@@ -52,7 +54,8 @@ fn load_file<S: Shelf>(
 ) -> Result<Vec<u8>, Stop>
     ensures same { (n : List ℕ) → S.file shelf.new n ≡ S.file shelf.old n }
     ensures later { (n : List ℕ) → S.faults shelf.old n ≤ S.faults shelf.new n }
-    ensures bytes { LoadsFile file (S.file shelf.old name.now) (Rose (S.faults shelf.old name.now) (S.faults shelf.new name.now)) result }
+    ensures bytes { LoadsFile file (S.file shelf.old name.now)
+        (Rose (S.faults shelf.old name.now) (S.faults shelf.new name.now)) result }
 {
     match load(alloc, shelf, name, file.limit()) {
         Ok(bytes) => Ok(bytes),

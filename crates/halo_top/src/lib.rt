@@ -6,13 +6,15 @@ mod check;
 mod command;
 mod fault_line;
 mod input;
+pub mod laws;
+mod no_words;
 mod one_life;
 mod program;
 mod refusal;
-mod report;
 mod value;
 
-pub use program::run;
+pub use no_words::NoWords;
+pub use program::{run, run_words};
 
 #[cfg(test)]
 mod tests;

@@ -1,12 +1,11 @@
 // The contracts that are valued so far: one life, and an annuity-due on it.
 ghost use Rattle.std.specs.Prelude.{◌≡◌, ◌≢◌, ℕ, IfNone, IfSome};
 ghost use Rattle.halo_status.specs.Pay.{pay_of};
-ghost use Rattle.halo_top.specs.ExactValue.{due_pay};
-ghost use Rattle.halo_top.specs.OneLife.{IsOfOneLife};
-ghost use Rattle.halo_top.specs.declared.one_life.OneLife.{OneLife as PlainOneLife};
+ghost use Rattle.halo_contract.specs.PlainContract.{contract_of};
+ghost use Rattle.halo_top.specs.OneLife.{IsOfOneLife, IsOneLife, due_pay};
 
-use halo_interest::Interest;
 use halo_contract::{Contract, Ties};
+use halo_interest::Interest;
 use halo_status::{Kind, Pay, Status, Vary};
 use halo_table::Life;
 
@@ -21,8 +20,8 @@ pub struct OneLife {
 impl OneLife {
     /// What a contract is as one of one life; None where it has another form.
     pub fn of(contract: &Contract) -> Option<OneLife>
-        ensures some { IfSome result (λ one. IsOfOneLife contract.now one) }
-        ensures none { IfNone result ((one : PlainOneLife) → IsOfOneLife contract.now one → ⊥) }
+        ensures some { IfSome result (λ one. IsOfOneLife (contract_of contract.now) one) }
+        ensures none { IfNone result (IsOneLife (contract_of contract.now) → ⊥) }
     {
         let [declared] = contract.lives.as_slice() else {
             return None;

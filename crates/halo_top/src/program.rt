@@ -1,17 +1,23 @@
 // A whole run of the program.
-ghost use Rattle.std.specs.Prelude.{◌≡◌, ◌≢◌, ◌≤◌, ◌⊎◌, ℕ, List, map, string_bytes};
+ghost use Rattle.std.specs.Prelude.{◌≡◌, ◌≢◌, ◌≤◌, ℕ, IfErr, IfOk, List, map, string_bytes};
 ghost use Rattle.halo_io.specs.Counts.{Rose};
 ghost use Rattle.halo_io.specs.Told.{AppendsTold, TookPrefix};
-ghost use Rattle.halo_top.specs.Command.{IsCommand};
+ghost use Rattle.halo_table.specs.DecrementTable.{TableFile};
+ghost use Rattle.halo_contract.specs.PlainContract.{contract_of};
+ghost use Rattle.halo_contract.specs.ValidContract.{IsValidContract};
 ghost use Rattle.halo_top.specs.Refusal.{line_of, status_of};
-ghost use Rattle.halo_top.specs.Verdict.{AnswersCommand, CallsFor, ReadsAll, shelved};
+ghost use Rattle.halo_top.specs.Run.{IsRun, status_of_none, sunk};
+ghost use Rattle.halo_top.specs.Verdict.{AnswersCommand, AnswersContract, shelved};
 
 use crate::check::check;
 use crate::command::{Command, Task};
 use crate::input::{load_contract, load_tables};
+use crate::no_words::NoWords;
 use crate::refusal::{Refusal, Stop};
-use crate::value::value;
+use crate::value::value_report;
+use halo_contract::Contract;
 use halo_io::{Shelf, Sink, put_all};
+use halo_table::Tables;
 use std::alloc::Global;
 
 /// The status where the whole answer was written.
@@ -23,19 +29,44 @@ const WRITE_FAILED: u8 = 1;
 /// The status where there was no memory.
 const NO_MEMORY: u8 = 9;
 
-/// Does what the words ask for: reads the files that they name from the shelf, writes the answer, or
-/// the line of a refusal, to `out`, and answers the status with which the program ends.
+/// Does what came of asking the machine for its words: where they are words, what [`run`] does
+/// with them; otherwise it reads and writes nothing, and answers the status that says why.
+pub fn run_words<S: Shelf, K: Sink>(
+    alloc: Global,
+    words: Result<Vec<String>, NoWords>,
+    shelf: &mut S,
+    out: &mut K,
+) -> u8
+    ensures same { (n : List ℕ) → S.file shelf.new n ≡ S.file shelf.old n }
+    ensures run { IfOk words (λ given. IsRun
+        (map string_bytes given.items)
+        (shelved (S.file shelf.old) (S.faults shelf.old) (S.faults shelf.new))
+        (sunk (K.taken out.old) (K.taken out.new) (K.faults out.old) (K.faults out.new))
+        result) }
+    ensures no_words { IfErr words (λ none. result ≡ status_of_none none) }
+    ensures unread { IfErr words (λ none. shelf.new ≡ shelf.old) }
+    ensures unwritten { IfErr words (λ none. out.new ≡ out.old) }
+    ensures memory { result ≡ 9 → out.new ≡ out.old }
+{
+    match words {
+        Ok(words) => run(alloc, &words, shelf, out),
+        Err(none) => none.status(),
+    }
+}
+
+/// Does what the words ask for: reads the files that they name from the shelf, writes the answer,
+/// or the line of a refusal, to `out`, and answers the status with which the program ends.
 ///
 /// | Status | Comes |
 /// |---|---|
 /// | 0 | where the whole text was written |
 /// | 1 | only where the sink's count of faults rose; a prefix of a text was taken |
-/// | 2 | where the words are no command that is built: `usage: ..` |
-/// | 3 | only where the shelf's count of faults of the file rose: `read fault tables`, `read fault contract` |
-/// | 4 | where the file is longer than its limit: `too long tables`, `too long contract` |
-/// | 5 | where the tables file has a fault, with the first faulty record: `tables record R KIND` |
-/// | 6, 7, 8 | where the contract file has a fault, with the first faulty line: `contract line L KIND`; 6 for `Syntax`, 8 for `Magnitude`, 7 for the others |
-/// | 7 | where the contract has no fault, and is not one that `value` is built for: `contract NotBuilt` |
+/// | 2 | where the words are no command that is built |
+/// | 3 | only where the shelf's count of faults of the file rose |
+/// | 4 | where the file is longer than its limit |
+/// | 5 | where the tables file has a fault, with the first faulty record |
+/// | 6, 7, 8 | where the contract file has a fault, with the first faulty line |
+/// | 7 | where the contract has no fault, and is not one that `value` is built for |
 /// | 9 | for want of memory; nothing was written, and the words were a command |
 ///
 /// The two decimals of each line of a report enclose the exact value of the contract that the files
@@ -44,16 +75,12 @@ const NO_MEMORY: u8 = 9;
 /// A text is built whole before its first write, and writing takes no memory.
 pub fn run<S: Shelf, K: Sink>(alloc: Global, words: &[String], shelf: &mut S, out: &mut K) -> u8
     ensures same { (n : List ℕ) → S.file shelf.new n ≡ S.file shelf.old n }
-    ensures answer { result ≢ 1 → result ≢ 9 → (text : List ℕ)
-        × CallsFor (map string_bytes words.now) (shelved (S.file shelf.old) (S.faults shelf.old) (S.faults shelf.new)) result text
-        × AppendsTold (K.taken out.old) (K.taken out.new) text }
-    ensures write_fault { result ≡ 1 → Rose (K.faults out.old) (K.faults out.new) × ((status : ℕ) × (text : List ℕ)
-        × CallsFor (map string_bytes words.now) (shelved (S.file shelf.old) (S.faults shelf.old) (S.faults shelf.new)) status text
-        × TookPrefix (K.taken out.old) (K.taken out.new) text) }
-    ensures memory { result ≡ 9 → IsCommand (map string_bytes words.now) × (out.new ≡ out.old) }
-    ensures complete { (status : ℕ) (text : List ℕ) → ReadsAll (map string_bytes words.now) (shelved (S.file shelf.old) (S.faults shelf.old) (S.faults shelf.new)) → (Rose (K.faults out.old) (K.faults out.new) → ⊥)
-        → CallsFor (map string_bytes words.now) (shelved (S.file shelf.old) (S.faults shelf.old) (S.faults shelf.new)) status text → (result ≡ status) ⊎ (result ≡ 9) }
-    ensures usage { (IsCommand (map string_bytes words.now) → ⊥) → (result ≡ 2) ⊎ (result ≡ 1) }
+    ensures run { IsRun
+        (map string_bytes words.now)
+        (shelved (S.file shelf.old) (S.faults shelf.old) (S.faults shelf.new))
+        (sunk (K.taken out.old) (K.taken out.new) (K.faults out.old) (K.faults out.new))
+        result }
+    ensures memory { result ≡ 9 → out.new ≡ out.old }
 {
     let Some(command) = Command::read(words) else {
         return refuse(Refusal::Usage, out);
@@ -68,20 +95,32 @@ pub fn run<S: Shelf, K: Sink>(alloc: Global, words: &[String], shelf: &mut S, ou
 // The text that a command writes.
 fn answer<S: Shelf>(alloc: Global, command: &Command<'_>, shelf: &mut S) -> Result<Vec<u8>, Stop>
     ensures same { (n : List ℕ) → S.file shelf.new n ≡ S.file shelf.old n }
-    ensures answer { AnswersCommand (shelved (S.file shelf.old) (S.faults shelf.old) (S.faults shelf.new)) command.now result }
+    ensures answer { AnswersCommand
+        (shelved (S.file shelf.old) (S.faults shelf.old) (S.faults shelf.new))
+        command.now result }
 {
     let tables = load_tables(alloc, shelf, command.tables)?;
     let contract = load_contract(alloc, shelf, command.contract, &tables)?;
-    match command.task {
-        Task::Value => value(alloc, &tables, &contract),
-        Task::Check => check(alloc, &tables, &contract),
+    text_of(alloc, command.task, &tables, &contract)
+}
+
+// The text that a task writes of a contract.
+fn text_of(alloc: Global, task: Task, tables: &Tables, contract: &Contract) -> Result<Vec<u8>, Stop>
+    requires { IsValidContract tables.now (contract_of contract.now) }
+    ensures { AnswersContract task tables.now (contract_of contract.now) result }
+{
+    match task {
+        Task::Value => value_report(alloc, tables, contract),
+        Task::Check => check(alloc, tables, contract),
     }
 }
 
 // Writes the line of a refusal, and answers its status, or that a write failed.
 fn refuse<K: Sink>(refusal: Refusal, out: &mut K) -> u8
-    ensures written { result ≢ 1 → (result ≡ status_of refusal) × AppendsTold (K.taken out.old) (K.taken out.new) (line_of refusal) }
-    ensures failed { result ≡ 1 → Rose (K.faults out.old) (K.faults out.new) × TookPrefix (K.taken out.old) (K.taken out.new) (line_of refusal) }
+    ensures written { result ≢ 1 → (result ≡ status_of refusal)
+        × AppendsTold (K.taken out.old) (K.taken out.new) (line_of refusal) }
+    ensures failed { result ≡ 1 → Rose (K.faults out.old) (K.faults out.new)
+        × TookPrefix (K.taken out.old) (K.taken out.new) (line_of refusal) }
 {
     write(refusal.line().as_bytes(), refusal.status(), out)
 }
@@ -89,8 +128,10 @@ fn refuse<K: Sink>(refusal: Refusal, out: &mut K) -> u8
 // Writes a text, and answers its status, or that a write failed.
 fn write<K: Sink>(text: &[u8], status: u8, out: &mut K) -> u8
     requires { status ≢ 1 }
-    ensures written { result ≢ 1 → (result ≡ status) × AppendsTold (K.taken out.old) (K.taken out.new) text.now }
-    ensures failed { result ≡ 1 → Rose (K.faults out.old) (K.faults out.new) × TookPrefix (K.taken out.old) (K.taken out.new) text.now }
+    ensures written { result ≢ 1 → (result ≡ status)
+        × AppendsTold (K.taken out.old) (K.taken out.new) text.now }
+    ensures failed { result ≡ 1 → Rose (K.faults out.old) (K.faults out.new)
+        × TookPrefix (K.taken out.old) (K.taken out.new) text.now }
 {
     match put_all(out, text) {
         Ok(()) => status,

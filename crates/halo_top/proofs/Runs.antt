@@ -1,0 +1,64 @@
+-- How a run ends: a text that is called for was written, or a write failed, or there was no memory.
+use Rattle.std.proofs.Common.{◌≡◌, ◌≢◌, ◌≤◌, ◌⊎◌, ℕ, suc, List, arith, refl, sym, inl, inr, ◌∙◌}
+use Rattle.std.proofs.Math.Decide.{ℕ_discrete}
+use Rattle.std.proofs.Math.Logic.Dec
+use Rattle.halo_io.specs.Told.{AppendsTold, TookPrefix}
+use Rattle.halo_top.specs.Command.{IsCommand}
+use Rattle.halo_top.specs.Refusal.{status_of}
+use Rattle.halo_top.specs.Run.{HasFailed, IsRun, Sunk}
+use Rattle.halo_top.specs.Verdict.{CallsFor, Shelved}
+use Rattle.halo_top.specs.declared.refusal.Refusal.TheVariants as refusal
+use Rattle.halo_top.proofs.OneAnswer.{answer-is-one, refusal-status}
+
+module _ (words : List (List ℕ)) (shelf : Shelved) where
+  -- what is called for has a status other than 9
+  not-9 : (called : ℕ) (text : List ℕ) → CallsFor words shelf called text → called ≢ 9
+  not-9 called text (inl (e, answered)) is = omega (arith, e, is)
+  not-9 called text (inr (r, refused, e, f)) is = omega (arith, e, is, (refusal-status r).1)
+
+  -- and the words are a command, or it is 2
+  of-usage : (called : ℕ) (text : List ℕ) → CallsFor words shelf called text → (IsCommand words → ⊥) → called ≡ 2
+  of-usage called text (inl (e, (t, a, b, asks, _))) none = absurd (none (t, a, b, asks))
+  of-usage called text (inr (refusal.Usage, refused, e, f)) none = e
+  of-usage called text (inr (refusal.Read x, (t, a, b, asks, _), e, f)) none = absurd (none (t, a, b, asks))
+  of-usage called text (inr (refusal.TooLong x, (t, a, b, asks, _), e, f)) none = absurd (none (t, a, b, asks))
+  of-usage called text (inr (refusal.Table x, (t, a, b, asks, _), e, f)) none = absurd (none (t, a, b, asks))
+  of-usage called text (inr (refusal.Contract x, (t, a, b, asks, _), e, f)) none = absurd (none (t, a, b, asks))
+  of-usage called text (inr (refusal.NotBuilt, (t, a, b, asks, _), e, f)) none = absurd (none (t, a, b, asks))
+
+-- what a write of a text with its status comes to
+pub record Writes (sink : Sunk) (called : ℕ) (text : List ℕ) (status : ℕ) : Type 0 where
+  pub written : status ≢ 1 → (status ≡ called) × AppendsTold sink.taken_before sink.taken_now text
+  pub failed : status ≡ 1 → HasFailed sink × TookPrefix sink.taken_before sink.taken_now text
+
+module _ (words : List (List ℕ)) (shelf : Shelved) (sink : Sunk) where
+  pub run_writes : (called : ℕ) (text : List ℕ) (status : ℕ)
+      → CallsFor words shelf called text → Writes sink called text status → IsRun words shelf sink status
+  run_writes called text status calls writes = record {
+    answer = λ fine memory.
+        let written = writes.written fine in
+        record { text = text; called = rw written.0 calls; written = written.1 };
+    write_fault = λ one.
+        let failed = writes.failed one in
+        record { failed = failed.0; status = called; text = text; called = calls; taken = failed.1 };
+    memory = λ memory.
+        let written = writes.written (λ one. absurd (omega (arith, memory, one))) in
+        absurd (not-9 words shelf called text calls (sym written.0 ∙ memory));
+    complete = λ other other_text reads sure also.
+        let written = writes.written (λ one. sure (writes.failed one).0) in
+        let one = answer-is-one words shelf reads called text other other_text calls also in
+        inl (written.0 ∙ one.one_status);
+    usage = λ none. elim (ℕ_discrete status 1) [
+      | yes one ↦ inr one
+      | no other ↦ inl ((writes.written other).0 ∙ of-usage words shelf called text calls none)
+    ];
+  }
+
+  pub run_without_memory : IsCommand words → IsRun words shelf sink 9
+  run_without_memory command = record {
+    answer = λ fine memory. absurd (memory refl);
+    write_fault = λ one. absurd (omega (arith, one));
+    memory = λ memory. command;
+    complete = λ other text reads sure calls. inr refl;
+    usage = λ none. absurd (none command);
+  }
