@@ -1,41 +1,27 @@
-//! The command `halo`: it passes its words, the files and the standard output of the machine to
-//! `run`, and ends with the status that `run` answers.
+//! The command `halo`: it asks the machine for its words, hands what came of it to `run_words` with
+//! the files and the standard output, and ends with the status that this answers.
 #![tactic(auto)]
 
-ghost use Rattle.std.specs.Prelude.{◌≡◌, ◌⊎◌, IfErr};
-
 use halo_io::{FileShelf, OutSink};
-use halo_top::run;
+use halo_top::{NoWords, run_words};
 use std::env::Env;
 use std::process::ExitCode;
 use std::{env, io};
 
-/// The status where there is no memory for the words.
-const NO_MEMORY: u8 = 9;
-
-/// The status where the system refuses a word for another cause, as one that is not UTF-8.
-const NO_WORDS: u8 = 10;
-
-// The words behind the program's name, or the status where they are not to be had.
-fn words<R: Env + AllocGlobal>(rt: &R) -> Result<Vec<String>, u8>
-    ensures { IfErr result (λ status. (status ≡ NO_MEMORY) ⊎ (status ≡ NO_WORDS)) }
-{
+// The words behind the program's name, or why they are not to be had.
+fn words<R: Env + AllocGlobal>(rt: &R) -> Result<Vec<String>, NoWords> {
     match env::args(rt) {
-        Ok(all) => all.skip(1).collect(rt.alloc()).map_err(|_| NO_MEMORY),
-        Err(error) if error.kind() == io::ErrorKind::OutOfMemory => Err(NO_MEMORY),
-        Err(_) => Err(NO_WORDS),
+        Ok(all) => all.skip(1).collect(rt.alloc()).map_err(|_| NoWords::Memory),
+        Err(error) if error.kind() == io::ErrorKind::OutOfMemory => Err(NoWords::Memory),
+        Err(_) => Err(NoWords::Refused),
     }
 }
 
 fn main(rt: HostRuntime) -> ExitCode {
-    let status = match words(&rt) {
-        Ok(words) => run(
-            rt.alloc(),
-            &words,
-            &mut FileShelf::new(&rt),
-            &mut OutSink::new(&rt),
-        ),
-        Err(status) => status,
-    };
-    ExitCode::from(status)
+    ExitCode::from(run_words(
+        rt.alloc(),
+        words(&rt),
+        &mut FileShelf::new(&rt),
+        &mut OutSink::new(&rt),
+    ))
 }

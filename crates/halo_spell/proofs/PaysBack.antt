@@ -6,7 +6,7 @@ use Rattle.std.specs.Option.{option_and_then, option_map}
 use Rattle.halo_status.specs.Nodes.{AtEachNode, HasShortList}
 use Rattle.halo_status.specs.Pay.{PlainPay}
 use Rattle.halo_status.specs.Tree as status
-use Rattle.halo_status.specs.Tree.{Tree, Trees}
+use Rattle.halo_status.specs.Tree.{Tree}
 use Rattle.halo_status.specs.ValidPay.{CanBeMarked, HasValidVary}
 use Rattle.halo_status.specs.declared.pay.Kind.{Kind}
 use Rattle.halo_status.specs.declared.pay.Kind.TheVariants.{Insurance}

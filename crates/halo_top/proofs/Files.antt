@@ -7,7 +7,7 @@ use Rattle.halo_table.specs.DecrementTable.{TableFile}
 use Rattle.halo_table.specs.Grouping.{tables_of}
 use Rattle.halo_contract.specs.PlainContract.{PlainContract}
 use Rattle.halo_top.specs.Input.{AreTables, HasContract, HasTables}
-use Rattle.halo_top.specs.Verdict.{AnswersContract, AnswersFiles, IsNotBuilt, OfFiles, Shelved}
+use Rattle.halo_top.specs.Verdict.{AnswersContract, AnswersFiles, IsNotBuilt, Shelved}
 use Rattle.halo_top.specs.declared.command.Task.{Task}
 use Rattle.halo_top.specs.declared.refusal.Refusal.TheVariants as refusal
 use Rattle.halo_top.specs.declared.refusal.Stop.{Stop}

@@ -1,5 +1,5 @@
 -- Where the files are told as far as they are needed, words and files call for one answer.
-use Rattle.std.proofs.Common.{◌≡◌, ◌≢◌, ◌⊎◌, ℕ, ◌<◌, ◌≤◌, arith, refl, subst, sym, ap, ◌∙◌, inl, inr}
+use Rattle.std.proofs.Common.{◌≡◌, ◌⊎◌, ℕ, ◌<◌, arith, refl, subst, sym, ap, ◌∙◌, inl, inr}
 use Rattle.std.proofs.Common.{List, [], ◌∷◌, length, Option, None, Some}
 use Rattle.halo_records.specs.Records.{records_of}
 use Rattle.halo_table.specs.DecrementTable.{TableFile}
@@ -14,9 +14,9 @@ use Rattle.halo_parse.specs.declared.fault.ContractKind.TheVariants as wrong
 use Rattle.halo_parse.proofs.laws.OneFault.{contract_is_one, first_fault_is_one, no_fault_is_first}
 use Rattle.halo_top.specs.Command.{Asks, task_word}
 use Rattle.halo_top.specs.Input.{AreTables, HasContract, HasContractFault, HasTableFault, limit_of}
-use Rattle.halo_top.specs.Laws.{AnswerIsOne, AreOneAnswer, AreOneCall}
+use Rattle.halo_top.specs.Laws.{AnswerIsOne, AreOneAnswer}
 use Rattle.halo_top.specs.Refusal.{contract_status, line_of, status_of}
-use Rattle.halo_top.specs.Verdict.{Answered, AreRead, AreWritten, CallsFor, IsAnswer, IsBuilt, IsNotBuilt, IsTextOf}
+use Rattle.halo_top.specs.Verdict.{Answered, AreRead, IsAnswer, IsBuilt, IsNotBuilt, IsTextOf}
 use Rattle.halo_top.specs.Verdict.{ReadsAll, Refused, Refuses, Shelved}
 use Rattle.halo_top.specs.declared.command.Task.{Task}
 use Rattle.halo_top.specs.declared.command.Task.TheVariants as task

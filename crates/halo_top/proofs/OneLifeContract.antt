@@ -1,6 +1,5 @@
 -- What a contract of one life is worth.
-use Rattle.std.proofs.Common.{◌≡◌, ◌≤◌, ◌^◌, ◌∷◌, [], None, refl, arith, length}
-use Rattle.std.specs.Prelude.{All, map}
+use Rattle.std.proofs.Common.{◌≡◌, ◌≤◌, ◌^◌, [], refl, arith}
 use Rattle.std.proofs.lemmas.List.Elements.{All-head, All-map}
 use Rattle.halo_num.specs.declared.nano.Nano.{Nano}
 use Rattle.halo_table.specs.DecrementTable.{HasRow, TableFile}

@@ -1,5 +1,5 @@
 -- Whether a contract is one of one life can be told.
-use Rattle.std.proofs.Common.{◌≡◌, ℕ, zero, suc, List, [], ◌∷◌, Option, None, Some, ap, arith, refl, ◌∙◌, map}
+use Rattle.std.proofs.Common.{◌≡◌, ℕ, List, [], ◌∷◌, Option, None, Some, ap, refl, map}
 use Rattle.std.proofs.Math.Decide.{map_dec, ℕ_discrete}
 use Rattle.std.proofs.Math.Logic.Dec
 use Rattle.halo_status.specs.Pay.{PlainPay}

@@ -1,5 +1,5 @@
 -- Where the files are told as far as they are needed, words and files call for an answer.
-use Rattle.std.proofs.Common.{◌≡◌, ◌<◌, ◌≤◌, ℕ, List, [], ◌∷◌, length, arith, refl, inl, inr, ap, ◌∙◌, sym}
+use Rattle.std.proofs.Common.{◌≡◌, ℕ, List, [], ◌∷◌, length, arith, refl, inl, inr, ap}
 use Rattle.std.proofs.Math.Decide.{dec_le}
 use Rattle.std.proofs.Math.Logic.Dec
 use Rattle.halo_records.specs.Records.{records_of}
@@ -17,10 +17,10 @@ use Rattle.halo_lines.proofs.ContractReports.{contracts-have-reports}
 use Rattle.halo_report.specs.ValueText.{report_text}
 use Rattle.halo_spell.specs.ContractText.{contract_text}
 use Rattle.halo_top.specs.Command.{Asks, IsCommand, task_word}
-use Rattle.halo_top.specs.Input.{AreTables, HasContract, limit_of}
+use Rattle.halo_top.specs.Input.{AreTables, HasContract}
 use Rattle.halo_top.specs.Laws.{AnswerExists}
 use Rattle.halo_top.specs.Refusal.{line_of, status_of}
-use Rattle.halo_top.specs.Verdict.{AreRead, CallsFor, IsAnswer, IsBuilt, IsRead, IsTextOf, ReadsAll, Refuses, Shelved}
+use Rattle.halo_top.specs.Verdict.{AreRead, CallsFor, IsAnswer, IsBuilt, IsRead, IsTextOf, Refuses, Shelved}
 use Rattle.halo_top.specs.declared.command.Task.{Task}
 use Rattle.halo_top.specs.declared.command.Task.TheVariants as task
 use Rattle.halo_top.specs.declared.refusal.InputFile.TheVariants as file
