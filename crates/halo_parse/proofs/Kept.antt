@@ -1,5 +1,5 @@
 -- What holds of the lines so far holds with one more that passes all checks.
-use Rattle.std.proofs.Common.{◌≡◌, ℕ, List, [], ◌∷◌, inl, inr, arith}
+use Rattle.std.proofs.Common.{◌≡◌, arith}
 use Rattle.std.specs.Prelude.{Err, Ok, OnOk, Result}
 use Rattle.std.proofs.lemmas.List.{length_push}
 use Rattle.std.proofs.lemmas.List.Elements.{All-nil, All-push}
@@ -8,7 +8,6 @@ use Rattle.halo_status.specs.Pay.{PlainPay}
 use Rattle.halo_table.specs.DecrementTable.{TableFile, names_of, HasRow}
 use Rattle.halo_parse.specs.Addition.{IsKept}
 use Rattle.halo_parse.specs.Checks.{PassesAll}
-use Rattle.halo_parse.specs.Faults.{MakesDraft}
 use Rattle.halo_parse.specs.Draft.{Draft, empty_draft, pay_written, place_of, with_line}
 use Rattle.halo_contract.specs.PlainContract.{life_names}
 use Rattle.halo_parse.specs.Line.{Line, interest, life, ties, pay, premium, reserve}
@@ -45,9 +44,3 @@ kept_by_line tables d (reserve time names) kept passes = record { few_lives = ke
 pub kept_if_ok : {E : Type 0} (r : Result Unit E) (tables : TableFile) (d : Draft) (l : Line) (next : Draft) → IsKept tables d → OnOk r (PassesAll tables d l × (next ≡ with_line tables d l)) → OnOk r (IsKept tables next)
 kept_if_ok (Ok x) tables d l next kept more = rw more.1 (kept_by_line tables d l kept more.0)
 kept_if_ok (Err e) tables d l next kept more = tt
-
--- and so it holds of what all the lines of a file say
-pub kept_by_lines : (tables : TableFile) (d final : Draft) (texts : List (List ℕ)) → IsKept tables d → MakesDraft tables d texts final → IsKept tables final
-kept_by_lines tables d final [] kept makes = rw makes kept
-kept_by_lines tables d final (text ∷ texts) kept (inl (silent, makes)) = kept_by_lines tables d final texts kept makes
-kept_by_lines tables d final (text ∷ texts) kept (inr (l, fine, makes)) = kept_by_lines tables (with_line tables d l) final texts (kept_by_line tables d l kept fine.passes) makes
