@@ -1,3 +1,8 @@
 mod PrintedEnds
 mod LineByLine
 mod PrintedColumns
+mod FewLives
+mod SetNames
+mod SetsInOrder
+mod Terms
+mod PaysLines

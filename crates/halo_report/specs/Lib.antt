@@ -4,3 +4,4 @@ pub mod ValueText
 pub mod Printed
 pub mod ColumnsText
 pub mod Laws
+pub mod FormText

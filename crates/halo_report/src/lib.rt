@@ -2,6 +2,7 @@
 #![tactic(auto)]
 
 mod columns;
+mod form;
 pub mod laws;
 #[cfg(test)]
 mod tests;
@@ -9,6 +10,7 @@ mod text;
 mod value;
 
 pub use columns::columns_text;
+pub use form::form_text;
 pub use text::LARGEST_PRINTED;
 /// There was not enough memory.
 pub use std::alloc::AllocError as Memory;

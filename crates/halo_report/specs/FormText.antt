@@ -1,0 +1,114 @@
+-- The text of compiled forms: for each pay a line with its symbol, and then one for each segment,
+-- with the coefficients of the sets of lives.
+use Rattle.std.specs.Prelude.{ℕ, zero, suc, ◌+◌, List, [], ◌∷◌, ◌++◌, Bool, true, false, Option, Some, None, codes, flat_map, get_or, length, map, replicate, ℤ, pos, negsuc, unsigned_abs}
+use Rattle.std.specs.Fmt.{decimal}
+use Rattle.std.specs.List.{join_with_byte}
+use Rattle.std.specs.Option.{option_to_list}
+use Rattle.halo_sums.specs.Sums.{numbers_from}
+use Rattle.halo_status.specs.Pay.{PlainPay}
+use Rattle.halo_table.specs.DecrementTable.{TableFile}
+use Rattle.halo_poly.specs.Poly.{coefficient_of}
+use Rattle.halo_compile.specs.declared.form.Segment.{Segment}
+use Rattle.halo_contract.specs.PlainContract.{PlainContract, life_names}
+use Rattle.halo_spell.specs.Canonical.{chosen}
+use Rattle.halo_spell.specs.ContractText.{pay_text}
+use Rattle.halo_spell.specs.StatusText.{status_text}
+
+-- the sets of n lives that have k lives, in the order of the positions of their lives, compared one
+-- by one from the first: those with the first life come before those without it
+abbrev pub sets_of_size : ℕ → ℕ → List (List Bool)
+sets_of_size zero n = replicate n false ∷ []
+sets_of_size (suc k) zero = []
+sets_of_size (suc k) (suc n) =
+    map (λ s. true ∷ s) (sets_of_size k n) ++ map (λ s. false ∷ s) (sets_of_size (suc k) n)
+
+-- all sets of n lives in canonical order: first by how many lives they have
+abbrev pub sets_in_order : ℕ → List (List Bool)
+sets_in_order n = flat_map (λ k. sets_of_size k n) (numbers_from 0 (suc n))
+
+-- the sets that begin with a set of the first lives, and have k of the n lives behind them
+abbrev pub sets_with : List Bool → ℕ → ℕ → List (List Bool)
+sets_with start k n = map (λ s. start ++ s) (sets_of_size k n)
+
+-- some names, joined by `:`; `1` where there are none
+abbrev pub joined : List (List ℕ) → List ℕ
+joined [] = codes "1"
+joined (name ∷ names) = join_with_byte 58 (name ∷ names)
+
+-- a set of lives that have these names
+abbrev pub set_text : List (List ℕ) → List Bool → List ℕ
+set_text names s = joined (chosen names s)
+
+-- the sign of a coefficient, behind a space
+abbrev pub sign_text : ℤ → List ℕ
+sign_text (pos n) = codes " +"
+sign_text (negsuc n) = codes " -"
+
+-- the term of a set with a coefficient: its sign, its size and the set; none where it is 0
+abbrev pub term_text : List ℕ → ℤ → List ℕ
+term_text set (pos zero) = []
+term_text set coefficient =
+    sign_text coefficient ++ decimal (unsigned_abs coefficient) ++ codes " " ++ set
+
+-- the term of a set in a polynomial
+abbrev pub term_of : List (List ℕ) → List ℤ → List Bool → List ℕ
+term_of names p s = term_text (set_text names s) (coefficient_of p s)
+
+-- the terms of some sets, one behind the other
+abbrev pub terms_of : List (List ℕ) → List ℤ → List (List Bool) → List ℕ
+terms_of names p sets = flat_map (term_of names p) sets
+
+-- some terms; a 0 where there are none
+abbrev pub terms_or_zero : List ℕ → List ℕ
+terms_or_zero [] = codes " 0"
+terms_or_zero (byte ∷ terms) = byte ∷ terms
+
+-- a polynomial of lives that have these names
+abbrev pub poly_text : List (List ℕ) → List ℤ → List ℕ
+poly_text names p = terms_or_zero (terms_of names p (sets_in_order (length names)))
+
+-- the line of a segment: its first and its last time, and its polynomial
+abbrev pub segment_line : {m : ℕ} → List (List ℕ) → Segment m → List ℕ
+segment_line names s =
+    decimal s.from ++ codes ".." ++ decimal s.to ++ poly_text names s.poly ++ codes "\n"
+
+-- the lines of the segments of a form
+abbrev pub segment_lines : {m : ℕ} → List (List ℕ) → List (Segment m) → List ℕ
+segment_lines names form = flat_map (segment_line names) form
+
+-- the form at a place
+abbrev pub form_at : {m : ℕ} → List (List (Segment m)) → ℕ → List (Segment m)
+form_at forms place = get_or forms place []
+
+-- the lines of a pay: its number and its symbol, and its form
+abbrev pub pay_lines : {m : ℕ} → List (List ℕ) → List (List ℕ) → ℕ → PlainPay → List (Segment m)
+    → List ℕ
+pay_lines lives causes number pay form =
+    codes "pay " ++ decimal number ++ codes " " ++ pay_text lives causes pay ++ codes "\n"
+    ++ segment_lines lives form
+
+-- the lines of some pays, the first of which has its form at a place
+abbrev pub pays_lines : {m : ℕ} → List (List ℕ) → List (List ℕ) → List (List (Segment m)) → ℕ
+    → List PlainPay → List ℕ
+pays_lines lives causes forms place [] = []
+pays_lines lives causes forms place (pay ∷ pays) =
+    pay_lines lives causes (suc place) pay (form_at forms place)
+    ++ pays_lines lives causes forms (suc place) pays
+
+-- the lines of the premium, where there is one: its status, and the form of its pay
+abbrev pub premium_form_lines : {m : ℕ} → List (List ℕ) → Option PlainPay → List (Segment m)
+    → List ℕ
+premium_form_lines lives None form = []
+premium_form_lines lives (Some pay) form =
+    codes "premium " ++ status_text lives pay.body ++ codes "\n" ++ segment_lines lives form
+
+-- how many forms a contract has: one for each pay, and one for the premium, where there is one
+abbrev pub form_count : PlainContract → ℕ
+form_count contract = length contract.pays + length (option_to_list contract.premium)
+
+-- the lines of the forms of a contract: those of its pays, in its order, and then of its premium
+abbrev pub form_text : {m : ℕ} → TableFile → PlainContract → List (List (Segment m)) → List ℕ
+form_text tables contract forms =
+    pays_lines (life_names contract.lives) tables.causes forms 0 contract.pays
+    ++ premium_form_lines (life_names contract.lives) contract.premium
+    (form_at forms (length contract.pays))
