@@ -1,10 +1,17 @@
-ghost use Rattle.std.specs.Prelude.{◌≡◌, ◌<◌, ◌≤◌, All, IfOk, pos, ◌≤ℤ◌};
+ghost use Rattle.std.specs.Prelude.{◌≡◌, ◌<◌, ◌≤◌, All, IfOk, length, pos, ◌≤ℤ◌};
+ghost use Rattle.halo_contract.specs.PlainContract.{contract_of};
+ghost use Rattle.halo_report.specs.FormText.{form_count};
 ghost use Rattle.halo_report.specs.Lines.{IsPrintable};
 
-use crate::{Memory, ValueReport, columns_text, value_text};
+use crate::{Memory, ValueReport, columns_text, form_text, value_text};
 use halo_columns::columns;
+use halo_compile::{Form, compile};
+use halo_contract::Contract;
 use halo_interest::Interest;
 use halo_num::{Nano, Steps};
+use halo_parse::read_contract;
+use halo_spell::laws::contracts_are_spellable;
+use halo_status::Pay;
 use halo_table::Tables;
 use std::alloc::Global;
 use std::marker::Brand;
@@ -33,6 +40,39 @@ pay 1 0.343750000 0.343750000\n\
 total 0.343750000 0.343750000\n\
 premium 0.275000000 0.275000000\n\
 reserve 1 0.100000000 0.100000000\n";
+
+// Each of three lives is in a table of three years.
+const THREE_YEARS: &[u8] = b"table,age,l,death\nm,60,3,1\nm,61,2,1\nm,62,1,1\n";
+
+const CONTRACT: &[u8] = b"\
+interest 1/20\n\
+life x m 60\n\
+life y m 60\n\
+life z m 60\n\
+pay 1 ad[2/(x:y:z)]\n\
+pay 1 ad[x:<2>]\n\
+pay 1 a[x:<2>]\n\
+pay 1 A[x^2:y]\n\
+pay 1 ad[<2>]\n\
+premium y:<1>\n";
+
+const FORMS: &[u8] = b"\
+pay 1 ad[2/(x:y:z)]\n\
+0..2 +1 x:y +1 x:z +1 y:z -2 x:y:z\n\
+pay 2 ad[x:<2>]\n\
+0..1 +1 x\n\
+2..2 0\n\
+pay 3 a[x:<2>]\n\
+1..2 +1 x\n\
+3..3 0\n\
+pay 4 A[x^2:y]\n\
+0..2 +1 x -1 x:y\n\
+pay 5 ad[<2>]\n\
+0..1 +1 1\n\
+2..2 0\n\
+premium y:<1>\n\
+0..0 +1 y\n\
+1..2 0\n";
 
 // An enclosure whose ends are equal, and a list of one enclosure.
 fn exactly(units: u64) -> Nano
@@ -85,4 +125,36 @@ fn assert_columns<L: Ledger>(rt: &impl Abort, alloc: Global, blank: Blank) -> Re
 #[test]
 fn text_of_columns(rt: HostRuntime) -> Result<(), Fail> {
     assert_columns::<Brand>(&rt, rt.alloc(), Blank::new(1))
+}
+
+// The form of a pay on three lives over three years.
+fn three_years(alloc: Global, pay: &Pay) -> Result<Form<8>, Memory> {
+    compile(alloc, pay, 3)
+}
+
+// Those of the pays of a contract, and of its premium, where it has one.
+fn compile_all(alloc: Global, contract: &Contract) -> Result<Vec<Form<8>>, Memory>
+    ensures { IfOk result (λ forms. length forms.items ≡ form_count (contract_of contract.now)) }
+{
+    let mut forms = Vec::new(alloc);
+    for pay in &contract.pays {
+        forms.push(three_years(alloc, pay)?)?;
+    }
+    if let Some(pay) = &contract.premium {
+        forms.push(three_years(alloc, pay)?)?;
+    }
+    Ok(forms)
+}
+
+#[test]
+fn text_of_forms(rt: HostRuntime) -> Result<(), Fail> {
+    let alloc = rt.alloc();
+    let tables = Tables::read(alloc, THREE_YEARS)?;
+    let contract = read_contract(alloc, CONTRACT, &tables)?;
+    assert!(rt; contract.lives.len() == 3);
+    contracts_are_spellable();
+    let forms = compile_all(alloc, &contract)?;
+    let text = form_text(alloc, &contract, &tables, &forms)?;
+    assert!(rt; text.as_slice() == FORMS);
+    Ok(())
 }
