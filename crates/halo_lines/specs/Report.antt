@@ -13,6 +13,7 @@ use Rattle.halo_contract.specs.declared.contract.ReserveLine.{ReserveLine}
 use Rattle.halo_model.specs.Basis.{Basis}
 use Rattle.halo_model.specs.ContractBasis.{contract_basis, premium_status}
 use Rattle.halo_model.specs.Line.{IsPremiumLine, IsReserveLine, IsTotalLine}
+use Rattle.halo_lines.specs.declared.report.ValueReport.{ValueReport}
 use Rattle.halo_lines.specs.PayLines.{ArePayLines}
 
 -- a value report as plain data: two ends for each pay, for all pays together, for the premium, if
@@ -22,6 +23,15 @@ pub record PlainReport : Type 0 where
   pub total : Nano
   pub premium : Option Nano
   pub reserves : List Nano
+
+-- a report in memory as plain data
+abbrev pub report_of : ValueReport → PlainReport
+report_of report = record {
+  pays = report.pays.items;
+  total = report.total;
+  premium = report.premium;
+  reserves = report.reserves.items;
+}
 
 -- the premium has its line exactly where one is asked for
 abbrev pub IsPremiumLineOf : Basis → List PlainPay → Option Tree → Option Nano → Type 0

@@ -5,12 +5,14 @@
 pub mod laws;
 mod pays;
 mod premium;
+mod report;
 mod reserve;
 #[cfg(test)]
 mod tests;
 
 pub use pays::{MOST_WORTH, benefits, pay_lines};
 pub use premium::{PremiumLine, premium_line};
+pub use report::{LARGEST_PRINTED, ValueReport};
 pub use reserve::reserve_line;
 /// There was not enough memory.
 pub use std::alloc::AllocError as Memory;

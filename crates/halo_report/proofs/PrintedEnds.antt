@@ -5,7 +5,7 @@ use Rattle.halo_num.specs.Ends.{Ends, printed}
 use Rattle.halo_num.specs.Rounding.{IsCeiling, IsFloor}
 use Rattle.halo_num.specs.declared.nano.Nano.{Nano}
 use Rattle.halo_report.specs.ColumnsText.{IsPrintableEntry}
-use Rattle.halo_report.specs.Lines.{IsPrintable}
+use Rattle.halo_lines.specs.Printable.{IsPrintable}
 use Rattle.halo_report.specs.Printed.{ceiling_of, floor_of, printed_of}
 
 floor-is : (r z : ℤ) → IsFloor r z (pos printed) → r ≡ floor_of z

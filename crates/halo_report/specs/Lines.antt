@@ -1,15 +1,8 @@
 -- Lines with the two ends of an enclosure.
 use Rattle.std.specs.Prelude.{ℕ, suc, List, [], ◌∷◌, ◌++◌, codes}
 use Rattle.std.specs.Fmt.{decimal}
-use Rattle.halo_num.specs.Ends.{IsSized}
 use Rattle.halo_num.specs.declared.nano.Nano.{Nano}
 use Rattle.halo_spell.specs.Decimal.{decimal_of}
-use Rattle.halo_report.specs.declared.text.TheConstants.{LARGEST_PRINTED}
-
--- the ends can be printed
-pub record IsPrintable (ends : Nano) : Type 0 where
-  pub lo : IsSized ends.lo LARGEST_PRINTED
-  pub hi : IsSized ends.hi LARGEST_PRINTED
 
 -- the two ends as decimals, a space before each
 abbrev pub ends_text : Nano → List ℕ

@@ -1,25 +1,8 @@
 -- The value report.
-use Rattle.std.specs.Prelude.{ℕ, All, IfSome, List, [], ◌++◌, Option, None, Some, codes}
+use Rattle.std.specs.Prelude.{ℕ, List, [], ◌++◌, Option, None, Some, codes}
 use Rattle.halo_num.specs.declared.nano.Nano.{Nano}
 use Rattle.halo_lines.specs.Report.{PlainReport}
-use Rattle.halo_report.specs.Lines.{IsPrintable, value_line, numbered_lines}
-use Rattle.halo_report.specs.declared.value.ValueReport.{ValueReport}
-
--- a report in memory as plain data
-abbrev pub report_of : ValueReport → PlainReport
-report_of report = record {
-  pays = report.pays.items;
-  total = report.total;
-  premium = report.premium;
-  reserves = report.reserves.items;
-}
-
--- all ends of a report can be printed
-pub record IsPrintableReport (report : PlainReport) : Type 0 where
-  pub pays : All IsPrintable report.pays
-  pub total : IsPrintable report.total
-  pub premium : IfSome report.premium IsPrintable
-  pub reserves : All IsPrintable report.reserves
+use Rattle.halo_report.specs.Lines.{value_line, numbered_lines}
 
 -- the line of the premium, where there is one
 abbrev pub premium_lines : Option Nano → List ℕ

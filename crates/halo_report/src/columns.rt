@@ -1,7 +1,7 @@
 // The text of the command `columns`.
 ghost use Rattle.std.specs.Prelude.{◌≡◌, ◌++◌, ◌<◌, IfOk, OnOk, length};
 ghost use Rattle.halo_report.specs.ColumnsText.{ArePrintable, ArePrintableCauses, IsPrintableAge, IsPrintableEntry, age_line, age_lines, cause_line, columns_text, entry_text, leavers_text, lines_from, survivors_text};
-ghost use Rattle.halo_report.specs.Lines.{IsPrintable};
+ghost use Rattle.halo_lines.specs.Printable.{IsPrintable};
 ghost use Rattle.halo_report.specs.Printed.{printed_of};
 
 use crate::Memory;

@@ -11,7 +11,7 @@ mod value;
 
 pub use columns::columns_text;
 pub use form::form_text;
-pub use text::LARGEST_PRINTED;
+pub use halo_lines::{LARGEST_PRINTED, ValueReport};
 /// There was not enough memory.
 pub use std::alloc::AllocError as Memory;
-pub use value::{ValueReport, value_text};
+pub use value::value_text;

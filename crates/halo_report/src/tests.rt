@@ -1,7 +1,7 @@
 ghost use Rattle.std.specs.Prelude.{◌≡◌, ◌<◌, ◌≤◌, All, IfOk, length, pos, ◌≤ℤ◌};
 ghost use Rattle.halo_contract.specs.PlainContract.{contract_of};
+ghost use Rattle.halo_lines.specs.Printable.{IsPrintable};
 ghost use Rattle.halo_report.specs.FormText.{form_count};
-ghost use Rattle.halo_report.specs.Lines.{IsPrintable};
 
 use crate::{Memory, ValueReport, columns_text, form_text, value_text};
 use halo_columns::columns;

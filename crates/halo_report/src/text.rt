@@ -2,15 +2,13 @@
 ghost use Rattle.std.specs.Prelude.{◌≡◌, ◌++◌, OnOk, codes};
 ghost use Rattle.std.specs.Fmt.{decimal};
 ghost use Rattle.halo_spell.specs.Decimal.{decimal_of};
-ghost use Rattle.halo_report.specs.Lines.{IsPrintable, ends_text};
+ghost use Rattle.halo_lines.specs.Printable.{IsPrintable};
+ghost use Rattle.halo_report.specs.Lines.{ends_text};
 
 use crate::Memory;
 use arrayvec::ArrayString;
 use halo_num::Nano;
 use itoa::Buffer;
-
-/// The greatest size of an end that is printed, in printed units of 10^-9.
-pub const LARGEST_PRINTED: u128 = 1_000_000_000_000_000_000_000_000_000_000_000_000;
 
 /// Writes bytes behind a text.
 pub fn write_bytes(bytes: &[u8], into: &mut Vec<u8>) -> Result<(), Memory>

@@ -1,26 +1,15 @@
 // The report of the command `value`.
 ghost use Rattle.std.specs.Prelude.{◌≡◌, ◌++◌, All, IfOk, OnOk};
-ghost use Rattle.halo_report.specs.Lines.{IsPrintable, value_line, numbered_lines};
-ghost use Rattle.halo_report.specs.ValueText.{IsPrintableReport, report_of, report_text};
+ghost use Rattle.halo_lines.specs.Printable.{IsPrintable, IsPrintableReport};
+ghost use Rattle.halo_lines.specs.Report.{report_of};
+ghost use Rattle.halo_report.specs.Lines.{value_line, numbered_lines};
+ghost use Rattle.halo_report.specs.ValueText.{report_text};
 
 use crate::Memory;
 use crate::text::{write_bytes, write_ends, write_number};
+use halo_lines::ValueReport;
 use halo_num::Nano;
 use std::alloc::Global;
-
-/// What a contract is worth: enclosures of its pays, of all pays together, of the premium where
-/// there is one, and of its reserves, in printed units of 10^-9.
-#[derive(Drop)]
-pub struct ValueReport {
-    /// Each pay with its amount, in the contract's order.
-    pub pays: Vec<Nano>,
-    /// All pays together.
-    pub total: Nano,
-    /// The premium, where the contract asks for one.
-    pub premium: Option<Nano>,
-    /// Each reserve that the contract asks for, in its order.
-    pub reserves: Vec<Nano>,
-}
 
 /// The lines of a value report: `pay` and its number for each pay, `total`, `premium` where there
 /// is one, and `reserve` and its number for each reserve, each with the two ends. Each end is at

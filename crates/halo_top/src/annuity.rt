@@ -4,7 +4,7 @@ ghost use Rattle.halo_num.specs.Ends.{HasWidth, IsWithin, fine};
 ghost use Rattle.halo_table.specs.DecrementTable.{HasRow};
 ghost use Rattle.halo_model.specs.Counts.{measures_of, width_count};
 ghost use Rattle.halo_model.specs.Line.{IsPayLine};
-ghost use Rattle.halo_report.specs.Lines.{IsPrintable};
+ghost use Rattle.halo_lines.specs.Printable.{IsPrintable};
 ghost use Rattle.halo_top.specs.OneLife.{EnclosesValue, due_pay, one_life_basis};
 
 use crate::one_life::OneLife;

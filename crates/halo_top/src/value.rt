@@ -4,9 +4,8 @@ ghost use Rattle.halo_table.specs.DecrementTable.{HasRow};
 ghost use Rattle.halo_contract.specs.PlainContract.{contract_of};
 ghost use Rattle.halo_contract.specs.ValidContract.{IsValidContract};
 ghost use Rattle.halo_model.specs.Line.{IsPayLine};
-ghost use Rattle.halo_lines.specs.Report.{EnclosesContract};
-ghost use Rattle.halo_report.specs.Lines.{IsPrintable};
-ghost use Rattle.halo_report.specs.ValueText.{IsPrintableReport, report_of};
+ghost use Rattle.halo_lines.specs.Report.{EnclosesContract, report_of};
+ghost use Rattle.halo_lines.specs.Printable.{IsPrintable, IsPrintableReport};
 ghost use Rattle.halo_top.specs.OneLife.{IsOneLife, due_pay, one_life_basis, one_pay_report};
 ghost use Rattle.halo_top.specs.Verdict.{AnswersContract};
 

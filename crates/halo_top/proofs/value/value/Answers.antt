@@ -2,8 +2,7 @@ use Rattle.std.proofs.Common.{◌≡◌, Ok, Err, Result}
 use Rattle.std.specs.Prelude.{IfOk, IsErrAnd, MatchResult}
 use Rattle.std.proofs.lemmas.Result.{IfOk-weaker}
 use Rattle.halo_contract.specs.PlainContract.{contract_of}
-use Rattle.halo_lines.specs.Report.{EnclosesContract}
-use Rattle.halo_report.specs.ValueText.{report_of}
+use Rattle.halo_lines.specs.Report.{EnclosesContract, PlainReport, report_of}
 use Rattle.halo_top.specs.OneLife.{one_pay_report}
 use Rattle.halo_top.proofs.OneLifeContract.{amount_within, encloses_contract, has_row}
 use Rattle.halo_top.proofs.value.value.Goals as goal
