@@ -1,4 +1,5 @@
-mod Room
-mod PayByPay
-mod ReserveLines
 pub mod ContractReports
+mod PayByPay
+pub mod PrintedEnds
+mod ReserveLines
+pub mod Room

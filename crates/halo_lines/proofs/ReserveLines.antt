@@ -1,8 +1,10 @@
 -- The line of a reserve, with a premium and without one.
-use Rattle.std.proofs.Common.{◌≡◌, ℕ, ◌≤◌, Bool, List, Option, Some, None}
-use Rattle.std.specs.Prelude.{IfNone, IfSome}
+use Rattle.std.proofs.Common.{◌≡◌, ℕ, ◌*◌, ◌≤◌, Bool, List, Option, Some, None, arith, pos}
+use Rattle.std.specs.Prelude.{IfNone, IfSome, neg_ℤ}
+use Rattle.std.proofs.lemmas.Int.{ints}
 use Rattle.halo_num.specs.Derived.{IsLessProduct}
-use Rattle.halo_num.specs.Ends.{Ends}
+use Rattle.halo_num.specs.Ends.{Ends, IsWithin}
+use Rattle.halo_num.specs.declared.limits.TheConstants.{GREATEST_END}
 use Rattle.halo_num.specs.declared.nano.Nano.{Nano}
 use Rattle.halo_status.specs.Pay.{PlainPay}
 use Rattle.halo_status.specs.Tree.{Tree}
@@ -31,3 +33,12 @@ pub without-premium : (premium : Option Ends) (later reserve : Ends) (ends : Nan
 without-premium None later reserve ends same printed = λ b pays T S benefits.
     reserve-has-line b pays None T S later ends (reserve-without-premium b pays T S later benefits) (rw same at printed)
 without-premium (Some p) later reserve ends same printed = tt
+
+-- a reserve is at most twice as large as what is added
+pub reserve-within : (premium : Option Ends) (later reserve : Ends)
+    → IsWithin later (neg_ℤ (pos GREATEST_END)) (pos GREATEST_END) → IfNone premium (reserve ≡ later)
+    → IfSome premium (λ p. IsWithin reserve (neg_ℤ (pos (2 * GREATEST_END))) (pos (2 * GREATEST_END)))
+    → IsWithin reserve (neg_ℤ (pos (2 * GREATEST_END))) (pos (2 * GREATEST_END))
+reserve-within None later reserve within same all =
+    rw same (record { low = omega (arith, ints, within.low); high = omega (arith, ints, within.high) })
+reserve-within (Some p) later reserve within same all = all

@@ -1,10 +1,11 @@
 // The lines of the pays of a contract, and all pays together.
-ghost use Rattle.std.specs.Prelude.{◌≡◌, Bool, IfOk, length, map, pos, ℕ};
+ghost use Rattle.std.specs.Prelude.{◌≡◌, All, Bool, IfOk, length, map, pos, ℕ};
 ghost use Rattle.halo_num.specs.Ends.{IsWithin};
 ghost use Rattle.halo_status.specs.Pay.{pay_of};
 ghost use Rattle.halo_model.specs.Basis.{Basis};
 ghost use Rattle.halo_model.specs.Enclosed.{EnclosesBenefits};
 ghost use Rattle.halo_contract.specs.Premium.{all_lives};
+ghost use Rattle.halo_lines.specs.Printable.{IsPrintable};
 ghost use Rattle.halo_lines.specs.PayLines.{ArePayLines};
 ghost use Rattle.halo_lines.specs.Values.{AreValues, HaveRoom};
 
@@ -21,13 +22,16 @@ pub const MOST_WORTH: u64 = 40_401;
 pub fn pay_lines(alloc: Global, pays: &[Pay], values: &[Ival]) -> Result<Vec<Nano>, Memory>
     requires same { length values.now ≡ length pays.now }
     requires room { HaveRoom (map pay_of pays.now) values.now }
-    ensures { IfOk result (λ lines. (b : Basis)
+    ensures lines { IfOk result (λ lines. (b : Basis)
         → AreValues b 0 all_lives (map pay_of pays.now) values.now
         → ArePayLines b (map pay_of pays.now) lines.items) }
+    ensures printable { IfOk result (λ lines. All IsPrintable lines.items) }
 {
     let mut lines = Vec::new(alloc);
     for place in 0..pays.len() {
         let benefit = add_pay(Ival::exact(0), pays[place].amount, values[place]);
+        // The proof sees here that the ends are in order.
+        let _ = benefit.lo();
         lines.push(benefit.to_nano())?;
     }
     Ok(lines)

@@ -7,6 +7,7 @@ ghost use Rattle.halo_model.specs.Basis.{Basis};
 ghost use Rattle.halo_model.specs.Enclosed.{EnclosesBenefits, EnclosesOne, EnclosesPremium};
 ghost use Rattle.halo_model.specs.Line.{IsPremiumLine};
 ghost use Rattle.halo_contract.specs.Premium.{all_lives, premium_pay};
+ghost use Rattle.halo_lines.specs.Printable.{IsPrintable};
 
 use halo_num::{GREATEST_DIVISOR, GREATEST_FACTOR, Ival, Nano};
 use halo_premium::premium;
@@ -35,8 +36,11 @@ pub fn premium_line(benefits: Ival, due: Ival) -> PremiumLine
         → EnclosesOne b (premium_pay status) 0 all_lives due
         → IsPremiumLine b pays status result.line }
     ensures within { IsWithin result.premium (pos 0) (pos GREATEST_FACTOR) }
+    ensures printable { IsPrintable result.line }
 {
     let premium = premium(benefits, due);
+    // The proof sees here that the ends are in order.
+    let _ = premium.lo();
     let line = premium.to_nano();
     PremiumLine { premium, line }
 }

@@ -1,5 +1,7 @@
 // The line of a reserve.
 ghost use Rattle.std.specs.Prelude.{◌≤◌, ◌+◌, Bool, IfNone, IfSome, List, None, Some, ℕ};
+ghost use Rattle.std.specs.Prelude.{neg_ℤ, pos};
+ghost use Rattle.halo_num.specs.Ends.{IsWithin};
 ghost use Rattle.halo_status.specs.Pay.{PlainPay};
 ghost use Rattle.halo_status.specs.Tree.{Tree};
 ghost use Rattle.halo_reserve.specs.Reserve.{CanTakeOff};
@@ -8,8 +10,9 @@ ghost use Rattle.halo_model.specs.Enclosed.{EnclosesBenefits, EnclosesOne, Enclo
 ghost use Rattle.halo_model.specs.Horizon.{horizon};
 ghost use Rattle.halo_model.specs.Line.{IsReserveLine};
 ghost use Rattle.halo_contract.specs.Premium.{premium_pay};
+ghost use Rattle.halo_lines.specs.Printable.{IsPrintable};
 
-use halo_num::{Ival, Nano, Steps};
+use halo_num::{GREATEST_END, Ival, Nano, Steps};
 use halo_reserve::reserve;
 use std::sync::ledger::Ledger;
 
@@ -30,7 +33,12 @@ pub fn reserve_line<L: Ledger>(
         → EnclosesBenefits b pays T S later → EnclosesPremium b pays status p
         → EnclosesOne b (premium_pay status) T S due
         → IsReserveLine b pays (Some status) T S result) }
+    ensures printable { IsWithin later (neg_ℤ (pos GREATEST_END)) (pos GREATEST_END)
+        → IsPrintable result }
     ensures cost { steps.new ≤ steps.old + 1 }
 {
-    reserve(later, premium, due, steps).to_nano()
+    let reserve = reserve(later, premium, due, steps);
+    // The proof sees here that the ends are in order.
+    let _ = reserve.lo();
+    reserve.to_nano()
 }

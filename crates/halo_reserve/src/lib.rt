@@ -1,11 +1,12 @@
 //! Reserves: the value of what is still to be paid, less that of the premiums still to come.
 #![tactic(auto)]
 
-ghost use Rattle.std.specs.Prelude.{◌≡◌, ◌+◌, IfNone, IfSome};
+ghost use Rattle.std.specs.Prelude.{◌≡◌, ◌+◌, ◌*◌, IfNone, IfSome, neg_ℤ, pos};
+ghost use Rattle.halo_num.specs.Ends.{IsWithin};
 ghost use Rattle.halo_num.specs.Derived.{IsLessProduct};
 ghost use Rattle.halo_reserve.specs.Reserve.{CanTakeOff, HasTakenOff};
 
-use halo_num::{Ival, Steps};
+use halo_num::{GREATEST_END, Ival, Steps};
 use std::sync::ledger::Ledger;
 
 #[cfg(test)]
@@ -26,6 +27,8 @@ pub fn reserve<L: Ledger>(
     ensures without { IfNone premium (result ≡ later) }
     ensures with { IfSome premium (λ p. HasTakenOff later p due result) }
     ensures difference { IfSome premium (λ p. IsLessProduct later p due result) }
+    ensures within { IfSome premium (λ p. IsWithin result
+        (neg_ℤ (pos (2 * GREATEST_END))) (pos (2 * GREATEST_END))) }
     ensures cost_without { IfNone premium (steps.new ≡ steps.old) }
     ensures cost_with { IfSome premium (λ p. steps.new ≡ steps.old + 1) }
 {
@@ -40,6 +43,7 @@ fn less_premiums<L: Ledger>(later: Ival, premium: Ival, due: Ival, steps: &mut S
     requires { CanTakeOff later premium due }
     ensures ends { HasTakenOff later premium due result }
     ensures difference { IsLessProduct later premium due result }
+    ensures within { IsWithin result (neg_ℤ (pos (2 * GREATEST_END))) (pos (2 * GREATEST_END)) }
     ensures cost { steps.new ≡ steps.old + 1 }
 {
     let premiums = premium.mul(due, steps);

@@ -31,3 +31,12 @@ returns-clause-difference g c = record {
       let together : v + (w * ones + u * t + 1) ≡ v + t * u + ones * w + 1 = omega arith in
       rw together at (c.sub.ensures.narrow v (w * ones + u * t + 1) later product);
 }
+
+pub returns-clause-within : goal.returns-clause-within
+returns-clause-within g c =
+    let premiums = c.mul-premiums.ensures in
+    let bound = premiums.bound (10 ^ 15) (10 ^ 3) (omega (arith, ints)) (omega (arith, ints)) in
+    record {
+      low = omega (arith, ints, c.sub.ensures.lo, bound, c.requires.later_in.low);
+      high = omega (arith, ints, c.sub.ensures.hi, premiums.from, c.requires.later_in.high);
+    }
