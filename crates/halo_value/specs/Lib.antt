@@ -1,0 +1,6 @@
+-- The definitions that the contracts of the values cite.
+pub mod ByKind
+pub mod PayValues
+pub mod Reading
+pub mod Setting
+pub mod ContractValues

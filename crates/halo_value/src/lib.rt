@@ -1,0 +1,20 @@
+//! What a contract is worth, from its tables to the bounds of its report.
+//!
+//! Each pay is valued in one pass over the years, from its horizon back to the start. On the way
+//! its value at the time of each reserve is read, so nothing is compiled or passed twice. The
+//! values of all pays then give the lines of the report: each pay, the total, the premium and each
+//! reserve.
+#![tactic(auto)]
+
+mod by_kind;
+mod column;
+mod contract;
+mod lines;
+mod pass;
+mod pays;
+mod reading;
+mod value;
+
+/// There was not enough memory.
+pub use std::alloc::AllocError as Memory;
+pub use value::value_report;
