@@ -13,6 +13,8 @@ mod lines;
 mod pass;
 mod pays;
 mod reading;
+#[cfg(test)]
+mod tests;
 mod value;
 
 /// There was not enough memory.
