@@ -15,13 +15,12 @@ is_command words asked asks = (asked.task, asked.tables.now, asked.contract.now,
 
 -- what something wrong with the files of a command is, as a refusal of its words
 pub refused : (words : List (List ℕ)) (shelf : Shelved) (t : Task) (tables contract : List ℕ)
-    → Asks words t tables contract → (r : Refusal) → Refuses t shelf tables contract r → Refused words shelf r
+    → Asks words t tables contract → (r : Refusal) → Refuses shelf tables contract r → Refused words shelf r
 refused words shelf t tables contract asks refusal.Usage h = absurd h
 refused words shelf t tables contract asks (refusal.Read f) h = (t, tables, contract, asks, h)
 refused words shelf t tables contract asks (refusal.TooLong f) h = (t, tables, contract, asks, h)
 refused words shelf t tables contract asks (refusal.Table fault) h = (t, tables, contract, asks, h)
 refused words shelf t tables contract asks (refusal.Contract fault) h = (t, tables, contract, asks, h)
-refused words shelf t tables contract asks refusal.NotBuilt h = (t, tables, contract, asks, h)
 
 module _ (words : List (List ℕ)) (shelf : Shelved) (asked : Command) (asks : ReadsWords words (Some asked)) where
   pub calls_for_text : (text : Vec ℕ) → AnswersCommand shelf asked (Ok text) → CallsFor words shelf 0 text.items

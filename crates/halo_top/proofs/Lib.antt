@@ -1,11 +1,6 @@
-mod Amounts
 mod Calls
 mod Files
 mod OneAnswer
-mod OneLifeContract
-mod OneLifeDue
-mod OneLifeForm
-mod OnePay
 mod Runs
 mod SomeAnswer
 mod Told

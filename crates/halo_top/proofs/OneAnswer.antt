@@ -16,7 +16,7 @@ use Rattle.halo_top.specs.Command.{Asks, task_word}
 use Rattle.halo_top.specs.Input.{AreTables, HasContract, HasContractFault, HasTableFault, limit_of}
 use Rattle.halo_top.specs.Laws.{AnswerIsOne, AreOneAnswer}
 use Rattle.halo_top.specs.Refusal.{contract_status, line_of, status_of}
-use Rattle.halo_top.specs.Verdict.{Answered, AreRead, IsAnswer, IsBuilt, IsNotBuilt, IsTextOf}
+use Rattle.halo_top.specs.Verdict.{Answered, AreRead, IsAnswer, IsTextOf}
 use Rattle.halo_top.specs.Verdict.{ReadsAll, Refused, Refuses, Shelved}
 use Rattle.halo_top.specs.declared.command.Task.{Task}
 use Rattle.halo_top.specs.declared.command.Task.TheVariants as task
@@ -24,16 +24,13 @@ use Rattle.halo_top.specs.declared.refusal.InputFile.TheVariants as file
 use Rattle.halo_top.specs.declared.refusal.Refusal.{Refusal}
 use Rattle.halo_top.specs.declared.refusal.Refusal.TheVariants as refusal
 
--- what the bytes of a contract file call for: a refusal, or an answer (None), where they write a contract that the
--- task is built for
-data JudgesContract (t : Task) (tables : TableFile) (bytes : List ℕ) : Option Refusal → Type 0 where
+-- what the bytes of a contract file call for: a refusal, or an answer (None), where they write a contract
+data JudgesContract (tables : TableFile) (bytes : List ℕ) : Option Refusal → Type 0 where
   too_long : limit_of file.Contract < length bytes
-      → JudgesContract t tables bytes (Some (refusal.TooLong file.Contract))
+      → JudgesContract tables bytes (Some (refusal.TooLong file.Contract))
   faulty : (fault : ContractFault) → HasContractFault tables bytes fault
-      → JudgesContract t tables bytes (Some (refusal.Contract fault))
-  not_built : IsNotBuilt t tables bytes → JudgesContract t tables bytes (Some refusal.NotBuilt)
-  served : (contract : PlainContract) → HasContract tables bytes contract → IsBuilt t contract
-      → JudgesContract t tables bytes None
+      → JudgesContract tables bytes (Some (refusal.Contract fault))
+  served : (contract : PlainContract) → HasContract tables bytes contract → JudgesContract tables bytes None
 
 -- faults of a contract file, and of a tables file, by their parts
 abbrev fault-of : ℕ → ContractKind → ContractFault
@@ -42,7 +39,7 @@ fault-of line k = record { line = line; kind = k }
 abbrev table-fault-of : ℕ → TableKind → TableFault
 table-fault-of row k = record { row = row; kind = k }
 
-module _ (t : Task) (tables : TableFile) (bytes : List ℕ) where
+module _ (tables : TableFile) (bytes : List ℕ) where
   one-fault : (a b : ContractFault) → HasContractFault tables bytes a → HasContractFault tables bytes b → a ≡ b
   one-fault a b is also =
       let one = first_fault_is_one tables bytes a.line b.line a.kind b.kind is.first also.first in
@@ -55,39 +52,27 @@ module _ (t : Task) (tables : TableFile) (bytes : List ℕ) where
   no-fault contract fault has is =
       absurd (no_fault_is_first tables bytes contract fault.line fault.kind has.writes is.first)
 
-  not-both : {R : Type 0} (contract : PlainContract)
-      → HasContract tables bytes contract → IsBuilt t contract → IsNotBuilt t tables bytes → R
-  not-both contract has built other = absurd (other.not_built
-      (subst (IsBuilt t) (contract_is_one tables bytes contract other.contract has.writes other.has.writes) built))
-
   one-judgement-of-contract : (m n : Option Refusal)
-      → JudgesContract t tables bytes m → JudgesContract t tables bytes n → m ≡ n
+      → JudgesContract tables bytes m → JudgesContract tables bytes n → m ≡ n
   one-judgement-of-contract m n (too_long a) (too_long b) = refl
   one-judgement-of-contract m n (too_long a) (faulty fault b) = absurd (omega (arith, a, b.short))
-  one-judgement-of-contract m n (too_long a) (not_built b) = absurd (omega (arith, a, b.has.short))
-  one-judgement-of-contract m n (too_long a) (served c has built) = absurd (omega (arith, a, has.short))
+  one-judgement-of-contract m n (too_long a) (served c has) = absurd (omega (arith, a, has.short))
   one-judgement-of-contract m n (faulty fault a) (too_long b) = absurd (omega (arith, b, a.short))
   one-judgement-of-contract m n (faulty fault a) (faulty other b) =
       ap (λ f. Some (refusal.Contract f)) (one-fault fault other a b)
-  one-judgement-of-contract m n (faulty fault a) (not_built b) = no-fault b.contract fault b.has a
-  one-judgement-of-contract m n (faulty fault a) (served c has built) = no-fault c fault has a
-  one-judgement-of-contract m n (not_built a) (too_long b) = absurd (omega (arith, b, a.has.short))
-  one-judgement-of-contract m n (not_built a) (faulty fault b) = no-fault a.contract fault a.has b
-  one-judgement-of-contract m n (not_built a) (not_built b) = refl
-  one-judgement-of-contract m n (not_built a) (served c has built) = not-both c has built a
-  one-judgement-of-contract m n (served c has built) (too_long b) = absurd (omega (arith, b, has.short))
-  one-judgement-of-contract m n (served c has built) (faulty fault b) = no-fault c fault has b
-  one-judgement-of-contract m n (served c has built) (not_built b) = not-both c has built b
-  one-judgement-of-contract m n (served c has built) (served d also built_too) = refl
+  one-judgement-of-contract m n (faulty fault a) (served c has) = no-fault c fault has a
+  one-judgement-of-contract m n (served c has) (too_long b) = absurd (omega (arith, b, has.short))
+  one-judgement-of-contract m n (served c has) (faulty fault b) = no-fault c fault has b
+  one-judgement-of-contract m n (served c has) (served d also) = refl
 
-module _ (t : Task) (shelf : Shelved) (tables_bytes contract : List ℕ) where
+module _ (shelf : Shelved) (tables_bytes contract : List ℕ) where
   -- what the bytes of both files call for
   abbrev Judges : Option Refusal → Type 0
   Judges m =
       ((m ≡ Some (refusal.TooLong file.Tables)) × (limit_of file.Tables < length tables_bytes))
       ⊎ ((fault : TableFault) × (m ≡ Some (refusal.Table fault)) × HasTableFault tables_bytes fault)
       ⊎ (AreTables tables_bytes × ((bytes : List ℕ) × (shelf.file contract ≡ Some bytes)
-      × JudgesContract t (tables_of (records_of tables_bytes)) bytes m))
+      × JudgesContract (tables_of (records_of tables_bytes)) bytes m))
 
   no-table-fault : {R : Type 0} (fault : TableFault) → AreTables tables_bytes → HasTableFault tables_bytes fault → R
   no-table-fault fault tables is = absurd (fine_or_fault _ fault.row fault.kind tables.fine is.first)
@@ -111,21 +96,21 @@ module _ (t : Task) (shelf : Shelved) (tables_bytes contract : List ℕ) where
   one-judgement m n (inr (inr a)) (inr (inl b)) = no-table-fault b.0 a.0 b.2
   one-judgement m n (inr (inr (tables, a))) (inr (inr (_, b))) =
       let same : b.0 ≡ a.0 = cc (a.1, b.1) in
-      one-judgement-of-contract t (tables_of (records_of tables_bytes)) a.0 m n a.2
-      (subst (λ bytes. JudgesContract t (tables_of (records_of tables_bytes)) bytes n) same b.2)
+      one-judgement-of-contract (tables_of (records_of tables_bytes)) a.0 m n a.2
+      (subst (λ bytes. JudgesContract (tables_of (records_of tables_bytes)) bytes n) same b.2)
 
 module _ (t : Task) (shelf : Shelved) (tables contract : List ℕ) (read : AreRead shelf tables contract) where
   answer-judged : (text : List ℕ) → IsAnswer t shelf tables contract text
-      → Judges t shelf read.tables_read.all contract None
+      → Judges shelf read.tables_read.all contract None
   answer-judged text answer =
       let has = rw read.tables_read.told at answer.written.tables_in in
       let file = read.contract_read has.in_order in
       let contract_has = rw file.told at answer.written.contract_in in
       let of_tables = subst (λ f. HasContract f file.all answer.contract) has.tables_are contract_has in
-      inr (inr (has.in_order, (file.all, file.told, served answer.contract of_tables answer.built)))
+      inr (inr (has.in_order, (file.all, file.told, served answer.contract of_tables)))
 
-  refusal-judged : (r : Refusal) → Refuses t shelf tables contract r
-      → Judges t shelf read.tables_read.all contract (Some r)
+  refusal-judged : (r : Refusal) → Refuses shelf tables contract r
+      → Judges shelf read.tables_read.all contract (Some r)
   refusal-judged refusal.Usage h = absurd h
   refusal-judged (refusal.Read file.Tables) h = absurd (read.tables_read.sure h)
   refusal-judged (refusal.Read file.Contract) h =
@@ -140,19 +125,15 @@ module _ (t : Task) (shelf : Shelved) (tables contract : List ℕ) (read : AreRe
       let f = rw read.tables_read.told at h in
       let file = read.contract_read f.0 in
       inr (inr (f.0, (file.all, file.told, faulty fault (rw file.told at f.1))))
-  refusal-judged refusal.NotBuilt h =
-      let f = rw read.tables_read.told at h in
-      let file = read.contract_read f.0 in
-      inr (inr (f.0, (file.all, file.told, not_built (rw file.told at f.1))))
 
-  one-refusal : (r other : Refusal) → Refuses t shelf tables contract r → Refuses t shelf tables contract other
+  one-refusal : (r other : Refusal) → Refuses shelf tables contract r → Refuses shelf tables contract other
       → r ≡ other
-  one-refusal r other h also = cc (one-judgement t shelf read.tables_read.all contract (Some r) (Some other)
+  one-refusal r other h also = cc (one-judgement shelf read.tables_read.all contract (Some r) (Some other)
       (refusal-judged r h) (refusal-judged other also))
 
   answer-or-refusal : {R : Type 0} (text : List ℕ) (r : Refusal)
-      → IsAnswer t shelf tables contract text → Refuses t shelf tables contract r → R
-  answer-or-refusal text r answer h = cc (one-judgement t shelf read.tables_read.all contract None (Some r)
+      → IsAnswer t shelf tables contract text → Refuses shelf tables contract r → R
+  answer-or-refusal text r answer h = cc (one-judgement shelf read.tables_read.all contract None (Some r)
       (answer-judged text answer) (refusal-judged r h))
 
   -- two answers are of one contract
@@ -194,18 +175,16 @@ module _ (words : List (List ℕ)) (shelf : Shelved) (reads : ReadsAll words she
       subst (λ name. P t tables name) b
       (subst (λ name. P t name other_contract) a (subst (λ v. P v other_tables other_contract) (one-task u t word) h))
 
-  refuses : (r : Refusal) → Refused words shelf r → Refuses t shelf tables contract r
+  refuses : (r : Refusal) → Refused words shelf r → Refuses shelf tables contract r
   refuses refusal.Usage h = absurd (h (t, tables, contract, asks))
   refuses (refusal.Read f) (u, a, b, asked, h) =
-      same-files (λ v x y. Refuses v shelf x y (refusal.Read f)) u a b asked h
+      same-files (λ v x y. Refuses shelf x y (refusal.Read f)) u a b asked h
   refuses (refusal.TooLong f) (u, a, b, asked, h) =
-      same-files (λ v x y. Refuses v shelf x y (refusal.TooLong f)) u a b asked h
+      same-files (λ v x y. Refuses shelf x y (refusal.TooLong f)) u a b asked h
   refuses (refusal.Table fault) (u, a, b, asked, h) =
-      same-files (λ v x y. Refuses v shelf x y (refusal.Table fault)) u a b asked h
+      same-files (λ v x y. Refuses shelf x y (refusal.Table fault)) u a b asked h
   refuses (refusal.Contract fault) (u, a, b, asked, h) =
-      same-files (λ v x y. Refuses v shelf x y (refusal.Contract fault)) u a b asked h
-  refuses refusal.NotBuilt (u, a, b, asked, h) =
-      same-files (λ v x y. Refuses v shelf x y refusal.NotBuilt) u a b asked h
+      same-files (λ v x y. Refuses shelf x y (refusal.Contract fault)) u a b asked h
 
   answers : (text : List ℕ) → Answered words shelf text → IsAnswer t shelf tables contract text
   answers text (u, a, b, asked, h) = same-files (λ v x y. IsAnswer v shelf x y text) u a b asked h
@@ -230,7 +209,7 @@ module _ (words : List (List ℕ)) (shelf : Shelved) (reads : ReadsAll words she
   no-refusal text r a h =
       answer-or-refusal t shelf tables contract (reads t tables contract asks) text r a (refuses r h)
 
-  pub one-refusal-of-command : (r other : Refusal) → Refuses t shelf tables contract r → Refused words shelf other
+  pub one-refusal-of-command : (r other : Refusal) → Refuses shelf tables contract r → Refused words shelf other
       → r ≡ other
   one-refusal-of-command r other h also =
       one-refusal t shelf tables contract (reads t tables contract asks) r other h (refuses other also)
@@ -242,7 +221,6 @@ module _ (words : List (List ℕ)) (shelf : Shelved) (reads : ReadsAll words she
   one-refused refusal.Usage (refusal.TooLong f) h (u, a, b, asked, _) = absurd (h (u, a, b, asked))
   one-refused refusal.Usage (refusal.Table fault) h (u, a, b, asked, _) = absurd (h (u, a, b, asked))
   one-refused refusal.Usage (refusal.Contract fault) h (u, a, b, asked, _) = absurd (h (u, a, b, asked))
-  one-refused refusal.Usage refusal.NotBuilt h (u, a, b, asked, _) = absurd (h (u, a, b, asked))
   one-refused (refusal.Read f) other (u, a, b, asked, h) also =
       one-refusal-of-command words shelf reads u a b asked (refusal.Read f) other h also
   one-refused (refusal.TooLong f) other (u, a, b, asked, h) also =
@@ -251,8 +229,6 @@ module _ (words : List (List ℕ)) (shelf : Shelved) (reads : ReadsAll words she
       one-refusal-of-command words shelf reads u a b asked (refusal.Table fault) other h also
   one-refused (refusal.Contract fault) other (u, a, b, asked, h) also =
       one-refusal-of-command words shelf reads u a b asked (refusal.Contract fault) other h also
-  one-refused refusal.NotBuilt other (u, a, b, asked, h) also =
-      one-refusal-of-command words shelf reads u a b asked refusal.NotBuilt other h also
 
 -- a fault of a contract file has one of three statuses
 fault-status : (k : ContractKind) → (5 < contract_status k) × (contract_status k < 9)
@@ -268,7 +244,6 @@ refusal-status (refusal.TooLong f) = (omega arith, omega arith)
 refusal-status (refusal.Table fault) = (omega arith, omega arith)
 refusal-status (refusal.Contract fault) =
     let status = fault-status fault.kind in (omega (arith, status.0), status.1)
-refusal-status refusal.NotBuilt = (omega arith, omega arith)
 
 pub answer-is-one : AnswerIsOne
 answer-is-one words shelf reads status text other_status other (inl (e, (t, a, b, asks, answer))) (inl (f, answered)) =

@@ -23,7 +23,6 @@ module _ (words : List (List ℕ)) (shelf : Shelved) where
   of-usage called text (inr (refusal.TooLong x, (t, a, b, asks, _), e, f)) none = absurd (none (t, a, b, asks))
   of-usage called text (inr (refusal.Table x, (t, a, b, asks, _), e, f)) none = absurd (none (t, a, b, asks))
   of-usage called text (inr (refusal.Contract x, (t, a, b, asks, _), e, f)) none = absurd (none (t, a, b, asks))
-  of-usage called text (inr (refusal.NotBuilt, (t, a, b, asks, _), e, f)) none = absurd (none (t, a, b, asks))
 
 -- what a write of a text with its status comes to
 pub record Writes (sink : Sunk) (called : ℕ) (text : List ℕ) (status : ℕ) : Type 0 where

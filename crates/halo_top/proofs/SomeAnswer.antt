@@ -20,23 +20,18 @@ use Rattle.halo_top.specs.Command.{Asks, IsCommand, task_word}
 use Rattle.halo_top.specs.Input.{AreTables, HasContract}
 use Rattle.halo_top.specs.Laws.{AnswerExists}
 use Rattle.halo_top.specs.Refusal.{line_of, status_of}
-use Rattle.halo_top.specs.Verdict.{AreRead, CallsFor, IsAnswer, IsBuilt, IsRead, IsTextOf, Refuses, Shelved}
+use Rattle.halo_top.specs.Verdict.{AreRead, CallsFor, IsAnswer, IsRead, IsTextOf, Refuses, Shelved}
 use Rattle.halo_top.specs.declared.command.Task.{Task}
 use Rattle.halo_top.specs.declared.command.Task.TheVariants as task
 use Rattle.halo_top.specs.declared.refusal.InputFile.TheVariants as file
 use Rattle.halo_top.specs.declared.refusal.Refusal.{Refusal}
 use Rattle.halo_top.specs.declared.refusal.Refusal.TheVariants as refusal
 use Rattle.halo_top.proofs.Calls.{refused}
-use Rattle.halo_top.proofs.OneLifeForm.{dec_one_life}
 
 -- what files call for: an answer, or a refusal
 data Calls (t : Task) (shelf : Shelved) (tables contract : List ℕ) : Type 0 where
   answers : (text : List ℕ) → IsAnswer t shelf tables contract text → Calls t shelf tables contract
-  refuses : (r : Refusal) → Refuses t shelf tables contract r → Calls t shelf tables contract
-
-dec_built : (t : Task) (contract : PlainContract) → Dec (IsBuilt t contract)
-dec_built task.Value contract = dec_one_life contract
-dec_built task.Check contract = yes tt
+  refuses : (r : Refusal) → Refuses shelf tables contract r → Calls t shelf tables contract
 
 -- each contract that can be valued has a text
 text-exists : (t : Task) (tables : TableFile) (contract : PlainContract) → IsSound tables
@@ -53,23 +48,18 @@ module _ (t : Task) (shelf : Shelved) (tables contract : List ℕ)
   file_tables = tables_of (records_of tables_read.all)
 
   of-contract : (plain : PlainContract) → HasContract file_tables read.all plain → Calls t shelf tables contract
-  of-contract plain has = elim (dec_built t plain) [
-    | yes built ↦
-        let text = text-exists t file_tables plain (sound_of_fine _ in_order.fine)
-        (contracts_are_valid file_tables read.all plain has.writes) in
-        answers text.0 (record {
-          tables = file_tables;
-          contract = plain;
-          written = record {
-            tables_in = rw tables_read.told (record { in_order = in_order; tables_are = refl });
-            contract_in = rw read.told has;
-          };
-          built = built;
-          text_is = text.1;
-        })
-    | no fails ↦ refuses refusal.NotBuilt
-        (rw (tables_read.told, read.told) (in_order, record { contract = plain; has = has; not_built = fails }))
-  ]
+  of-contract plain has =
+      let text = text-exists t file_tables plain (sound_of_fine _ in_order.fine)
+      (contracts_are_valid file_tables read.all plain has.writes) in
+      answers text.0 (record {
+        tables = file_tables;
+        contract = plain;
+        written = record {
+          tables_in = rw tables_read.told (record { in_order = in_order; tables_are = refl });
+          contract_in = rw read.told has;
+        };
+        text_is = text.1;
+      })
 
   of-contract-file : Calls t shelf tables contract
   of-contract-file = elim (dec_le (length read.all) 65536) [

@@ -1,7 +1,6 @@
 -- The definitions that the contracts of a run cite.
 pub mod Command
 pub mod Input
-pub mod OneLife
 pub mod Refusal
 pub mod Verdict
 pub mod Run

@@ -57,7 +57,6 @@ words_of (refusal.Table fault) =
     codes "tables record " ++ decimal fault.row ++ codes " " ++ kind_word fault.kind
 words_of (refusal.Contract fault) =
     codes "contract line " ++ decimal fault.line ++ codes " " ++ contract_kind_word fault.kind
-words_of refusal.NotBuilt = codes "contract NotBuilt"
 
 -- the line that a refusal writes
 abbrev pub line_of : Refusal → List ℕ
@@ -76,4 +75,3 @@ status_of (refusal.Read _) = 3
 status_of (refusal.TooLong _) = 4
 status_of (refusal.Table _) = 5
 status_of (refusal.Contract fault) = contract_status fault.kind
-status_of refusal.NotBuilt = 7

@@ -14,7 +14,6 @@ use Rattle.halo_spell.specs.ContractText.{contract_text}
 use Rattle.halo_top.specs.Command.{Asks, IsCommand}
 use Rattle.halo_top.specs.Input.{AreTables, HasContract, HasContractFault, HasTableFault, HasTables}
 use Rattle.halo_top.specs.Input.{limit_of}
-use Rattle.halo_top.specs.OneLife.{IsOneLife}
 use Rattle.halo_top.specs.Refusal.{line_of, status_of}
 use Rattle.halo_top.specs.declared.command.Command.{Command}
 use Rattle.halo_top.specs.declared.command.Task.{Task}
@@ -39,24 +38,11 @@ shelved file before now = record { file = file; before = before; now = now }
 abbrev pub HasRisen : Shelved → List ℕ → Type 0
 HasRisen shelf name = Rose (shelf.before name) (shelf.now name)
 
--- a contract that a task is built for: all can be checked, and those of one life valued
-abbrev pub IsBuilt : Task → PlainContract → Type 0
-IsBuilt task.Value contract = IsOneLife contract
-IsBuilt task.Check contract = ⊤
-
 -- what a task writes of a contract: a report that encloses what it is worth, or its canonical text
 abbrev pub IsTextOf : Task → TableFile → PlainContract → List ℕ → Type 0
 IsTextOf task.Value tables contract text =
     (report : PlainReport) × EnclosesContract tables contract report × (text ≡ report_text report)
 IsTextOf task.Check tables contract text = text ≡ contract_text tables contract
-
--- what a task makes of a contract: its text, or that it is not built for it; want of memory is free
-abbrev pub AnswersContract : Task → TableFile → PlainContract → Result (Vec ℕ) Stop → Type 0
-AnswersContract t tables contract (Ok text) =
-    IsBuilt t contract × IsTextOf t tables contract text.items
-AnswersContract t tables contract (Err stop.Memory) = ⊤
-AnswersContract t tables contract (Err (stop.Refused refusal.NotBuilt)) = IsBuilt t contract → ⊥
-AnswersContract t tables contract (Err (stop.Refused _)) = ⊥
 
 -- these are the tables and the contract in the files of these names, as far as they are told
 pub record AreWritten
@@ -65,14 +51,13 @@ pub record AreWritten
   pub tables_in : IfSome (shelf.file tables_name) (λ all. HasTables all tables)
   pub contract_in : IfSome (shelf.file contract_name) (λ all. HasContract tables all contract)
 
--- nothing is wrong with the files of these names, as far as they are told: they write a contract
--- that the task is built for, and this is what the task writes of it
+-- nothing is wrong with the files of these names, as far as they are told: they write a contract,
+-- and this is what the task writes of it
 pub record IsAnswer (t : Task) (shelf : Shelved) (tables_name contract_name text : List ℕ)
     : Type 0 where
   pub tables : TableFile
   pub contract : PlainContract
   pub written : AreWritten shelf tables_name contract_name tables contract
-  pub built : IsBuilt t contract
   pub text_is : IsTextOf t tables contract text
 
 -- the tables file of this name is in order, where it is told
@@ -85,35 +70,28 @@ abbrev pub OfFiles : Shelved → List ℕ → List ℕ → (TableFile → List �
 OfFiles shelf tables contract P = IfSome (shelf.file tables) (λ all. AreTables all
     × IfSome (shelf.file contract) (P (tables_of (records_of all))))
 
--- the bytes of a contract file write a contract that a task is not built for
-pub record IsNotBuilt (t : Task) (tables : TableFile) (bytes : List ℕ) : Type 0 where
-  pub contract : PlainContract
-  pub has : HasContract tables bytes contract
-  pub not_built : IsBuilt t contract → ⊥
-
 -- this is the first thing that is wrong with the files of these names, as far as they are told; a
 -- file is read only where those before it are in order
-abbrev pub Refuses : Task → Shelved → List ℕ → List ℕ → Refusal → Type 0
-Refuses t shelf tables contract (refusal.Read file.Tables) = HasRisen shelf tables
-Refuses t shelf tables contract (refusal.TooLong file.Tables) =
+abbrev pub Refuses : Shelved → List ℕ → List ℕ → Refusal → Type 0
+Refuses shelf tables contract (refusal.Read file.Tables) = HasRisen shelf tables
+Refuses shelf tables contract (refusal.TooLong file.Tables) =
     IfSome (shelf.file tables) (λ all. limit_of file.Tables < length all)
-Refuses t shelf tables contract (refusal.Table fault) =
+Refuses shelf tables contract (refusal.Table fault) =
     IfSome (shelf.file tables) (λ all. HasTableFault all fault)
-Refuses t shelf tables contract (refusal.Read file.Contract) =
+Refuses shelf tables contract (refusal.Read file.Contract) =
     TablesInOrder shelf tables × HasRisen shelf contract
-Refuses t shelf tables contract (refusal.TooLong file.Contract) =
+Refuses shelf tables contract (refusal.TooLong file.Contract) =
     TablesInOrder shelf tables
     × IfSome (shelf.file contract) (λ all. limit_of file.Contract < length all)
-Refuses t shelf tables contract (refusal.Contract fault) =
+Refuses shelf tables contract (refusal.Contract fault) =
     OfFiles shelf tables contract (λ file bytes. HasContractFault file bytes fault)
-Refuses t shelf tables contract refusal.NotBuilt = OfFiles shelf tables contract (IsNotBuilt t)
-Refuses t shelf tables contract refusal.Usage = ⊥
+Refuses shelf tables contract refusal.Usage = ⊥
 
 -- what a task writes of the files of these names, or why there is none; want of memory is free
 abbrev pub AnswersFiles : Task → Shelved → List ℕ → List ℕ → Result (Vec ℕ) Stop → Type 0
 AnswersFiles t shelf tables contract (Ok text) = IsAnswer t shelf tables contract text.items
 AnswersFiles t shelf tables contract (Err stop.Memory) = ⊤
-AnswersFiles t shelf tables contract (Err (stop.Refused r)) = Refuses t shelf tables contract r
+AnswersFiles t shelf tables contract (Err (stop.Refused r)) = Refuses shelf tables contract r
 
 -- what a command's files answer
 abbrev pub AnswersCommand : Shelved → Command → Result (Vec ℕ) Stop → Type 0
@@ -125,7 +103,7 @@ AnswersCommand shelf command result =
 abbrev pub Refused : List (List ℕ) → Shelved → Refusal → Type 0
 Refused words shelf refusal.Usage = IsCommand words → ⊥
 Refused words shelf r = (t : Task) × (tables : List ℕ) × (contract : List ℕ)
-    × Asks words t tables contract × Refuses t shelf tables contract r
+    × Asks words t tables contract × Refuses shelf tables contract r
 
 -- an answer to words and files: the words are a command, and its files have this text as answer
 abbrev pub Answered : List (List ℕ) → Shelved → List ℕ → Type 0

@@ -41,7 +41,6 @@ impl Refusal {
                 line.push_str(" ");
                 line.push_str(word_of_contract_kind(fault.kind));
             }
-            Refusal::NotBuilt => line.push_str("contract NotBuilt"),
         }
         line.push_str("\n");
         line

@@ -1,14 +1,12 @@
 //! The program `halo` over any files and any output: from words and bytes to bytes and a status.
 #![tactic(auto)]
 
-mod annuity;
 mod check;
 mod command;
 mod fault_line;
 mod input;
 pub mod laws;
 mod no_words;
-mod one_life;
 mod program;
 mod refusal;
 mod value;

@@ -2,21 +2,21 @@
 ghost use Rattle.std.specs.Prelude.{◌≡◌, ◌≢◌, ◌≤◌, ℕ, IfErr, IfOk, List, map, string_bytes};
 ghost use Rattle.halo_io.specs.Counts.{Rose};
 ghost use Rattle.halo_io.specs.Told.{AppendsTold, TookPrefix};
-ghost use Rattle.halo_table.specs.DecrementTable.{TableFile};
 ghost use Rattle.halo_contract.specs.PlainContract.{contract_of};
 ghost use Rattle.halo_contract.specs.ValidContract.{IsValidContract};
 ghost use Rattle.halo_top.specs.Refusal.{line_of, status_of};
 ghost use Rattle.halo_top.specs.Run.{IsRun, status_of_none, sunk};
-ghost use Rattle.halo_top.specs.Verdict.{AnswersCommand, AnswersContract, shelved};
+ghost use Rattle.halo_top.specs.Verdict.{AnswersCommand, IsTextOf, shelved};
 
 use crate::check::check;
 use crate::command::{Command, Task};
 use crate::input::{load_contract, load_tables};
 use crate::no_words::NoWords;
 use crate::refusal::{Refusal, Stop};
-use crate::value::value_report;
+use crate::value::value;
 use halo_contract::Contract;
 use halo_io::{Shelf, Sink, put_all};
+use halo_report::Memory;
 use halo_table::Tables;
 use std::alloc::Global;
 
@@ -66,7 +66,6 @@ pub fn run_words<S: Shelf, K: Sink>(
 /// | 4 | where the file is longer than its limit |
 /// | 5 | where the tables file has a fault, with the first faulty record |
 /// | 6, 7, 8 | where the contract file has a fault, with the first faulty line |
-/// | 7 | where the contract has no fault, and is not one that `value` is built for |
 /// | 9 | for want of memory; nothing was written, and the words were a command |
 ///
 /// The two decimals of each line of a report enclose the exact value of the contract that the files
@@ -101,16 +100,24 @@ fn answer<S: Shelf>(alloc: Global, command: &Command<'_>, shelf: &mut S) -> Resu
 {
     let tables = load_tables(alloc, shelf, command.tables)?;
     let contract = load_contract(alloc, shelf, command.contract, &tables)?;
-    text_of(alloc, command.task, &tables, &contract)
+    match text_of(alloc, command.task, &tables, &contract) {
+        Ok(text) => Ok(text),
+        Err(_) => Err(Stop::Memory),
+    }
 }
 
 // The text that a task writes of a contract.
-fn text_of(alloc: Global, task: Task, tables: &Tables, contract: &Contract) -> Result<Vec<u8>, Stop>
+fn text_of(
+    alloc: Global,
+    task: Task,
+    tables: &Tables,
+    contract: &Contract,
+) -> Result<Vec<u8>, Memory>
     requires { IsValidContract tables.now (contract_of contract.now) }
-    ensures { AnswersContract task tables.now (contract_of contract.now) result }
+    ensures { IfOk result (λ text. IsTextOf task tables.now (contract_of contract.now) text.items) }
 {
     match task {
-        Task::Value => value_report(alloc, tables, contract),
+        Task::Value => value(alloc, tables, contract),
         Task::Check => check(alloc, tables, contract),
     }
 }

@@ -39,8 +39,6 @@ pub enum Refusal {
     Table(TableFault),
     /// This line of the contract file is the first faulty one.
     Contract(ContractFault),
-    /// The contract has a form that is not valued yet.
-    NotBuilt,
 }
 
 /// Why there is no answer.
@@ -67,7 +65,6 @@ impl Refusal {
                 ContractKind::Magnitude => 8,
                 _ => 7,
             },
-            Refusal::NotBuilt => 7,
         }
     }
 }
