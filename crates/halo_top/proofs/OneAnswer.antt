@@ -162,6 +162,11 @@ one-task task.Value task.Value e = refl
 one-task task.Value task.Check e = absurd (omega (arith, ap first_byte e))
 one-task task.Check task.Value e = absurd (omega (arith, ap first_byte e))
 one-task task.Check task.Check e = refl
+one-task task.Compile task.Compile e = refl
+one-task task.Compile task.Value e = absurd (omega (arith, ap first_byte e))
+one-task task.Value task.Compile e = absurd (omega (arith, ap first_byte e))
+one-task task.Compile task.Check e = absurd (omega (arith, ap length e))
+one-task task.Check task.Compile e = absurd (omega (arith, ap length e))
 
 module _ (words : List (List ℕ)) (shelf : Shelved) (reads : ReadsAll words shelf)
     (t : Task) (tables contract : List ℕ) (asks : Asks words t tables contract) where

@@ -8,7 +8,8 @@ use Rattle.halo_top.specs.Verdict.{AreWritten, CallsFor, IsTextOf, ReadsAll, She
 use Rattle.halo_top.specs.declared.command.Task.{Task}
 
 -- two texts are what one task writes of the one contract in the files: for `check` they are equal,
--- and for `value` both are reports that enclose what the contract is worth
+-- for `value` both are reports that enclose what the contract is worth, and for `compile` both are
+-- texts of the forms of its pays
 pub record AreOneAnswer (words : List (List ℕ)) (shelf : Shelved) (text other : List ℕ)
     : Type 0 where
   pub task : Task

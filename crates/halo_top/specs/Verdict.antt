@@ -1,6 +1,6 @@
 -- What a run has to answer: a status and a text, from the words, the files that the shelf tells,
 -- and the files of which the count of faults rose.
-use Rattle.std.specs.Prelude.{◌≡◌, ℕ, ◌<◌, ◌⊎◌, List, length, Option, IfSome, Some, ⊤}
+use Rattle.std.specs.Prelude.{◌≡◌, ℕ, ◌<◌, ◌^◌, ◌⊎◌, List, length, Option, IfSome, Some, ⊤}
 use Rattle.std.specs.Prelude.{Result, Ok, Err}
 use Rattle.std.specs.Global.{Vec}
 use Rattle.halo_io.specs.Counts.{Rose}
@@ -8,9 +8,12 @@ use Rattle.halo_records.specs.Records.{records_of}
 use Rattle.halo_table.specs.DecrementTable.{TableFile}
 use Rattle.halo_table.specs.Grouping.{tables_of}
 use Rattle.halo_contract.specs.PlainContract.{PlainContract}
+use Rattle.halo_compile.specs.declared.form.Segment.{Segment}
 use Rattle.halo_lines.specs.Report.{EnclosesContract, PlainReport}
+use Rattle.halo_report.specs.FormText.{form_text}
 use Rattle.halo_report.specs.ValueText.{report_text}
 use Rattle.halo_spell.specs.ContractText.{contract_text}
+use Rattle.halo_value.specs.Forms.{AreForms}
 use Rattle.halo_top.specs.Command.{Asks, IsCommand}
 use Rattle.halo_top.specs.Input.{AreTables, HasContract, HasContractFault, HasTableFault, HasTables}
 use Rattle.halo_top.specs.Input.{limit_of}
@@ -38,11 +41,14 @@ shelved file before now = record { file = file; before = before; now = now }
 abbrev pub HasRisen : Shelved → List ℕ → Type 0
 HasRisen shelf name = Rose (shelf.before name) (shelf.now name)
 
--- what a task writes of a contract: a report that encloses what it is worth, or its canonical text
+-- what a task writes of a contract: a report that encloses what it is worth, its canonical text, or
+-- the compiled forms of its pays
 abbrev pub IsTextOf : Task → TableFile → PlainContract → List ℕ → Type 0
 IsTextOf task.Value tables contract text =
     (report : PlainReport) × EnclosesContract tables contract report × (text ≡ report_text report)
 IsTextOf task.Check tables contract text = text ≡ contract_text tables contract
+IsTextOf task.Compile tables contract text = (forms : List (List (Segment (2 ^ length contract.lives))))
+    × AreForms tables contract forms × (text ≡ form_text tables contract forms)
 
 -- these are the tables and the contract in the files of these names, as far as they are told
 pub record AreWritten

@@ -9,6 +9,8 @@ pub enum Task {
     Value,
     /// `check`: its canonical text.
     Check,
+    /// `compile`: the compiled forms of its pays.
+    Compile,
 }
 
 /// What the words ask for: what to write of the contract in one file, with the tables in another.
@@ -30,6 +32,7 @@ impl<'a> Command<'a> {
         let task = match name.as_str() {
             "value" => Task::Value,
             "check" => Task::Check,
+            "compile" => Task::Compile,
             _ => return None,
         };
         Some(Command {

@@ -3,6 +3,7 @@
 
 mod check;
 mod command;
+mod compile;
 mod fault_line;
 mod input;
 pub mod laws;

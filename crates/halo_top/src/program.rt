@@ -10,6 +10,7 @@ ghost use Rattle.halo_top.specs.Verdict.{AnswersCommand, IsTextOf, shelved};
 
 use crate::check::check;
 use crate::command::{Command, Task};
+use crate::compile::compile;
 use crate::input::{load_contract, load_tables};
 use crate::no_words::NoWords;
 use crate::refusal::{Refusal, Stop};
@@ -119,6 +120,7 @@ fn text_of(
     match task {
         Task::Value => value(alloc, tables, contract),
         Task::Check => check(alloc, tables, contract),
+        Task::Compile => compile(alloc, tables, contract),
     }
 }
 

@@ -4,3 +4,4 @@ pub mod PayValues
 pub mod Reading
 pub mod Setting
 pub mod ContractValues
+pub mod Forms

@@ -1,5 +1,5 @@
 // The report of a contract with a number of lives.
-ghost use Rattle.std.specs.Prelude.{◌≡◌, ℕ, ◌^◌, ◌<◌, ◌≤◌, IfOk, length, map};
+ghost use Rattle.std.specs.Prelude.{◌≡◌, ℕ, ◌^◌, ◌<◌, ◌≤◌, IfOk, length};
 ghost use Rattle.halo_table.specs.DecrementTable.{HasRow};
 ghost use Rattle.halo_contract.specs.PlainContract.{contract_of};
 ghost use Rattle.halo_contract.specs.ValidContract.{IsValidContract};
@@ -9,9 +9,10 @@ ghost use Rattle.halo_lines.specs.Report.{EnclosesContract, report_of};
 
 use crate::Memory;
 use crate::lines::report_lines;
+use crate::lives::declared_lives;
 use crate::pass::ALL_LIVES;
 use crate::pays::{Setting, values_of_pays, values_of_premium};
-use halo_contract::{Contract, LifeLine, Ties};
+use halo_contract::{Contract, Ties};
 use halo_life::{Group, MOST_LIVES, Work};
 use halo_lines::ValueReport;
 use halo_num::Steps;
@@ -48,17 +49,6 @@ pub fn report<const N: usize, const M: usize, L: Ledger>(
     let values = values_of_pays(alloc, pays, &setting, &mut work, steps)?;
     let due = values_of_premium(alloc, &contract.premium, &setting, &mut work, steps)?;
     report_lines(alloc, pays, reserves, &values, due, steps)
-}
-
-// The lives of a contract, in the order in which they are declared.
-fn declared_lives(alloc: Global, lines: &[LifeLine]) -> Result<Vec<Life>, Memory>
-    ensures { IfOk result (λ lives. lives.items ≡ map (λ line. line.life) lines.now) }
-{
-    let mut lives = Vec::new(alloc);
-    for line in lines {
-        lives.push(line.life)?;
-    }
-    Ok(lives)
 }
 
 // The lives at the start, all of them alive, with the rule for ties.

@@ -4,12 +4,16 @@
 //! its value at the time of each reserve is read, so nothing is compiled or passed twice. The
 //! values of all pays then give the lines of the report: each pay, the total, the premium and each
 //! reserve.
+//!
+//! The compiled forms of the pays are also answered by themselves, without a pass.
 #![tactic(auto)]
 
 mod by_kind;
 mod column;
 mod contract;
+mod forms;
 mod lines;
+mod lives;
 mod pass;
 mod pays;
 mod reading;
@@ -17,6 +21,7 @@ mod reading;
 mod tests;
 mod value;
 
+pub use forms::compiled_forms;
 /// There was not enough memory.
 pub use std::alloc::AllocError as Memory;
 pub use value::value_report;
