@@ -6,9 +6,6 @@ use Rattle.halo_contract.specs.PlainContract.{PlainContract}
 use Rattle.halo_top.specs.Input.{HasContract, HasTables}
 use Rattle.halo_top.specs.Verdict.{IsAnswer, IsTextOf, Shelved}
 use Rattle.halo_top.specs.declared.command.Task.{Task}
-use Rattle.halo_top.specs.declared.refusal.Refusal.TheVariants as refusal
-use Rattle.halo_top.specs.declared.refusal.Stop.{Stop}
-use Rattle.halo_top.specs.declared.refusal.Stop.TheVariants as stop
 use Rattle.halo_top.proofs.Told.{told}
 
 -- the tables and the bytes that were loaded are those of the files, as far as they are told

@@ -1,4 +1,5 @@
 mod Calls
+mod CompiledForms
 mod Files
 mod OneAnswer
 mod Runs

@@ -1,7 +1,6 @@
 -- How a run ends: a text that is called for was written, or a write failed, or there was no memory.
 use Rattle.std.proofs.Common.{◌≡◌, ◌≢◌, ℕ, List, arith, refl, sym, inl, inr, ◌∙◌}
 use Rattle.std.proofs.Math.Decide.{ℕ_discrete}
-use Rattle.std.proofs.Math.Logic.Dec
 use Rattle.halo_io.specs.Told.{AppendsTold, TookPrefix}
 use Rattle.halo_top.specs.Command.{IsCommand}
 use Rattle.halo_top.specs.Run.{HasFailed, IsRun, Sunk}

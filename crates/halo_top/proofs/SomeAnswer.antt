@@ -1,7 +1,6 @@
 -- Where the files are told as far as they are needed, words and files call for an answer.
 use Rattle.std.proofs.Common.{◌≡◌, ℕ, ◌^◌, List, [], ◌∷◌, length, arith, refl, inl, inr, ap}
 use Rattle.std.proofs.Math.Decide.{dec_le}
-use Rattle.std.proofs.Math.Logic.Dec
 use Rattle.halo_records.specs.Records.{records_of}
 use Rattle.halo_table.specs.DecrementTable.{TableFile}
 use Rattle.halo_table.specs.Grouping.{tables_of}

@@ -47,7 +47,8 @@ abbrev pub IsTextOf : Task → TableFile → PlainContract → List ℕ → Type
 IsTextOf task.Value tables contract text =
     (report : PlainReport) × EnclosesContract tables contract report × (text ≡ report_text report)
 IsTextOf task.Check tables contract text = text ≡ contract_text tables contract
-IsTextOf task.Compile tables contract text = (forms : List (List (Segment (2 ^ length contract.lives))))
+IsTextOf task.Compile tables contract text =
+    (forms : List (List (Segment (2 ^ length contract.lives))))
     × AreForms tables contract forms × (text ≡ form_text tables contract forms)
 
 -- these are the tables and the contract in the files of these names, as far as they are told

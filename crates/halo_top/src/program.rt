@@ -69,6 +69,10 @@ pub fn run_words<S: Shelf, K: Sink>(
 /// | 6, 7, 8 | where the contract file has a fault, with the first faulty line |
 /// | 9 | for want of memory; nothing was written, and the words were a command |
 ///
+/// `value T C` writes the report of the contract in the file C with the tables in the file T,
+/// `check T C` its canonical text, and `compile T C` the compiled forms of its pays and of its
+/// premium.
+///
 /// The two decimals of each line of a report enclose the exact value of the contract that the files
 /// write, as far as they are told.
 ///

@@ -1,8 +1,7 @@
 -- What a valid contract says of the forms of its pays.
-use Rattle.std.proofs.Common.{◌≡◌, ℕ, ◌^◌, ◌≤◌, ◌++◌, List, [], ◌∷◌, Option, None, Some, length, arith, sym, ◌∙◌}
+use Rattle.std.proofs.Common.{◌≡◌, ℕ, ◌^◌, ◌++◌, List, [], ◌∷◌, None, Some, length, arith, sym}
 use Rattle.std.specs.Prelude.{All}
 use Rattle.std.specs.List.{AllZip}
-use Rattle.std.specs.Option.{option_to_list}
 use Rattle.std.proofs.lemmas.List.{append-nil, length-map}
 use Rattle.std.proofs.lemmas.Slice.Zip.{all_zipped_more}
 use Rattle.halo_status.specs.Pay.{PlainPay}
@@ -40,7 +39,10 @@ module _ (tables : TableFile) (contract : PlainContract) (valid : IsValidContrac
 
   module _ {m : ℕ} (forms : List (List (Segment m)))
       (of_pays : AllZip (IsFormOn (length lives) (lives_of tables lives)) contract.pays forms) where
-    on-contract : AllZip (IsFormOn (length contract.lives) (lives_of tables (declared contract.lives))) contract.pays forms
+    abbrev IsOnContract : PlainPay → List (Segment m) → Type 0
+    IsOnContract = IsFormOn (length contract.lives) (lives_of tables (declared contract.lives))
+
+    on-contract : AllZip IsOnContract contract.pays forms
     on-contract = rw (count, ← told) of_pays
 
     pub without-premium : contract.premium ≡ None → AreForms tables contract forms
@@ -50,5 +52,4 @@ module _ (tables : TableFile) (contract : PlainContract) (valid : IsValidContrac
         → IsFormOn (length lives) (lives_of tables lives) pay form → AreForms tables contract (forms ++ form ∷ [])
     with-premium pay form is of_premium =
         rw is
-        (all_zipped_more (IsFormOn (length contract.lives) (lives_of tables (declared contract.lives))) contract.pays forms
-        pay form on-contract (rw (count, ← told) of_premium))
+        (all_zipped_more IsOnContract contract.pays forms pay form on-contract (rw (count, ← told) of_premium))

@@ -1,4 +1,3 @@
-use Rattle.halo_top.proofs.Files.{answers_files}
 use Rattle.halo_parse.proofs.ValidContracts.{contracts_are_valid}
 use Rattle.halo_top.proofs.program.answer.Goals as goal
 

@@ -21,15 +21,16 @@ forms_of_pays-requires g c =
     let lives : c.deref-3.result.now ≡ declared contract.lives =
     c.deref-3.ensures.value ∙ c.in_ok-lives.ensures ∙ ap declared c.deref.ensures.value in
     let pays = subst (λ (ps : List Pay). All (CanBeValued (length c.deref-3.result.now)) (map pay_of ps))
-    (sym c.deref-2.ensures.value) (pays-compiled c.args.tables.now contract c.requires.valid c.deref-3.result.now lives) in
-    (lit< tt, (have-sets c.args.tables.now contract c.requires.valid c.deref-3.result.now lives g.row.M c.requires.sets, pays))
+    (sym c.deref-2.ensures.value)
+    (pays-compiled c.args.tables.now contract c.requires.valid c.deref-3.result.now lives) in
+    let sets = have-sets c.args.tables.now contract c.requires.valid c.deref-3.result.now lives g.row.M c.requires.sets in
+    (lit< tt, (sets, pays))
 
 pub form_of_pay-requires : goal.form_of_pay-requires
 form_of_pay-requires g c =
     let contract : PlainContract = contract_of c.args.contract.now in
     let lives : c.deref-in-Some.result.now ≡ declared contract.lives =
-    c.deref-in-Some.ensures.value ∙ c.in_ok-lives.ensures ∙ ap declared c.deref.ensures.value in
-    (
+    c.deref-in-Some.ensures.value ∙ c.in_ok-lives.ensures ∙ ap declared c.deref.ensures.value in (
       lit< tt,
       (
         have-sets c.args.tables.now contract c.requires.valid c.deref-in-Some.result.now lives g.row.M c.requires.sets,
@@ -45,7 +46,8 @@ returns g c =
     let told : List Life = c.deref-3.result.now in
     let lives : told ≡ declared contract.lives =
     c.deref-3.ensures.value ∙ c.in_ok-lives.ensures ∙ ap declared c.deref.ensures.value in
-    let of_pays = subst (λ (ps : List Pay). AllZip (IsFormOn (length told) (lives_of tables told)) (map pay_of ps) c.in_ok-forms.forms.items)
+    let forms = c.in_ok-forms.forms.items in
+    let of_pays = subst (λ (ps : List Pay). AllZip (IsFormOn (length told) (lives_of tables told)) (map pay_of ps) forms)
     c.deref-2.ensures.value c.in_ok-forms.ensures in
     elim c.match-contract.branch [
       | in-Some+in_ok-form_of_pay+in_ok-push w ↦
@@ -55,10 +57,10 @@ returns g c =
           let of_premium = subst (λ (ls : List Life). IsFormOn (length ls) (lives_of tables ls) pay form) same
           w.in_ok-form_of_pay.ensures in
           rw (w.forms-is, w.in_ok-push.ensures.items)
-          (with-premium tables contract c.requires.valid told lives c.in_ok-forms.forms.items of_pays pay form
+          (with-premium tables contract c.requires.valid told lives forms of_pays pay form
           (ap (option_map pay_of) w.in-Some.is) of_premium)
       | in_default w ↦
           rw w.forms-is
-          (without-premium tables contract c.requires.valid told lives c.in_ok-forms.forms.items of_pays
+          (without-premium tables contract c.requires.valid told lives forms of_pays
           (ap (option_map pay_of) w.in_default.is))
     ]

@@ -15,8 +15,8 @@ form_of_pay-requires g c =
     let pay : Pay = c.pay-item.result in
     let i : ℕ = c.loop-pay.pay-index in
     let below : i < length (map pay_of pays) = omega (arith, length-map pays pay_of, c.loop-pay-test.true) in
-    let can = subst (CanBeValued (length c.args.lives.now)) (get_or-map pay_of pays i pay ∙ ap pay_of (sym c.pay-item.is))
-    (c.requires.pays i (pay_of pay) below) in
+    let same = get_or-map pay_of pays i pay ∙ ap pay_of (sym c.pay-item.is) in
+    let can = subst (CanBeValued (length c.args.lives.now)) same (c.requires.pays i (pay_of pay) below) in
     (lit< tt, (c.requires.lives, can))
 
 pub loop-pay-preserved : goal.loop-pay-preserved
