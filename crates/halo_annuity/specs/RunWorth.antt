@@ -41,7 +41,7 @@ EnclosesPart {n} task place mask i = (ties : Ties) →
     let run = run_of (segment_at task.form.now place) in
     Encloses i (run_part b (pay_of_task task) run (bits n mask)) (denominator b 0 all_lives)
 
--- i encloses the discount of year t times the chance of a set of n lives, all alive at t, to
+-- i encloses the discount factor of year t times the chance of a set of n lives, all alive at t, to
 -- survive it
 pub record EnclosesDiscountedSurvival (b : Basis) (n : ℕ) (s : List Bool) (t : ℕ) (i : Ends)
     : Type 0 where

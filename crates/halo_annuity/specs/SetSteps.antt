@@ -4,8 +4,8 @@ use Rattle.halo_num.specs.Chance.{EnclosesChance}
 use Rattle.halo_num.specs.Ends.{Ends, fine}
 use Rattle.halo_annuity.specs.Worth.{Carries}
 
--- a value of a set is carried back by a year: by the discount of the year times the chance of the
--- set to survive it
+-- a value of a set is carried back by a year: by the discount factor of the year times the chance
+-- of the set to survive it
 pub record CarriesBy (discount survival later result : Ends) : Type 0 where
   pub chance : Ends
   pub product : (n m d e v w : ℕ) →

@@ -72,8 +72,8 @@ fn carry_sets<const M: usize, L: Ledger>(
     }
 }
 
-// Carries both values of a set back by a year: by its discount, and by the chance of the set to
-// survive it. Those of a set that is not within `named` become 0, without a product.
+// Carries both values of a set back by a year: by its discount factor, and by the chance of the set
+// to survive it. Those of a set that is not within `named` become 0, without a product.
 fn carry_set<const M: usize, L: Ledger>(
     work: &mut Work<M>,
     set: u16,

@@ -18,8 +18,8 @@ use halo_num::{Ival, ONE_IN_FINE_UNITS, Steps};
 use halo_sums::has_bit;
 use std::sync::ledger::Ledger;
 
-/// The discount of year `t` times the probability that all lives of a set, alive at time `t`,
-/// survive the year. It makes a product for each life of the set, and one more.
+/// The discount factor of year `t` times the probability that all lives of a set, alive at time
+/// `t`, survive the year. It makes a product for each life of the set, and one more.
 pub fn year<const N: usize, const M: usize, L: Ledger>(
     task: &Task<N, M>,
     set: u16,

@@ -36,8 +36,8 @@ pub record EnclosesDues
   pub narrow : HasWidth i (years * ((d + 3) * most_due due k years))
 
 -- What one year back makes of a later value of a set, given the chances that one of it is the first
--- to leave and counts and that all survive, the discount, and what is due: what is due and what
--- comes later, if all survive, are discounted together.
+-- to leave and counts and that all survive, the discount factor, and what is due: what is due and
+-- what comes later, if all survive, are discounted together.
 pub record GoesBack (later leave survive discount : Ends) (due : Due) (result : Ends) : Type 0 where
   pub from : pos 0 ≤ℤ result.lo
   pub bound : (m : ℕ)
