@@ -18,9 +18,9 @@ use halo_life::Work;
 use halo_num::{Ival, Steps};
 use std::sync::ledger::Ledger;
 
-/// Carries the values of all sets back from time t + 1 to time `t`, for a valuation at any time. With
-/// n lives named by the body it makes at most 4 * 2^n products, whatever the number of lives; both
-/// values of a set with another life become 0.
+/// Carries the values of all sets back from time t + 1 to time `t`, for a valuation at any time.
+/// With n lives named by the body it makes at most 4 * 2^n products, whatever the number of lives;
+/// both values of a set with another life become 0.
 pub fn carry_back<const N: usize, const M: usize, L: Ledger>(
     task: &Task<N, M>,
     t: u16,

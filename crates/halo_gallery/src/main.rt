@@ -3,9 +3,9 @@
 //! clause says that there is memory, so these rows show that contracts and tables up to the limits
 //! are answered, and not refused for want of it.
 //!
-//! A row has the words of a run; the files that they name lie in `data`. To add a row, write its line
-//! into `data/rows.txt`, put its tables file and its contract file beside it, and its answer into
-//! `stdout`. A line that begins with `#` is a heading.
+//! A row has the words of a run; the files that they name lie in `data`. To add a row, write its
+//! line into `data/rows.txt`, put its tables file and its contract file beside it, and its answer
+//! into `stdout`. A line that begins with `#` is a heading.
 #![tactic(auto)]
 
 use halo_io::{FileShelf, OutSink};

@@ -14,8 +14,8 @@ use halo_num::{Ival, Steps};
 use halo_poly::Poly;
 use std::sync::ledger::Ledger;
 
-/// A year of an insurance: its discount factor, what it pays, and the coefficients of all sets in it
-/// and in the year after, if the form goes on until then.
+/// A year of an insurance: its discount factor, what it pays, and the coefficients of all sets in
+/// it and in the year after, if the form goes on until then.
 #[derive(Clone, Copy)]
 pub(crate) struct Year<'a, const M: usize> {
     pub(crate) discount: Ival,

@@ -23,7 +23,8 @@ forms_of_pays-requires g c =
     let pays = subst (λ (ps : List Pay). All (CanBeValued (length c.deref-3.result.now)) (map pay_of ps))
     (sym c.deref-2.ensures.value)
     (pays-compiled c.args.tables.now contract c.requires.valid c.deref-3.result.now lives) in
-    let sets = have-sets c.args.tables.now contract c.requires.valid c.deref-3.result.now lives g.row.M c.requires.sets in
+    let sets = have-sets c.args.tables.now contract c.requires.valid c.deref-3.result.now lives g.row.M
+    c.requires.sets in
     (lit< tt, (sets, pays))
 
 pub form_of_pay-requires : goal.form_of_pay-requires
@@ -47,7 +48,8 @@ returns g c =
     let lives : told ≡ declared contract.lives =
     c.deref-3.ensures.value ∙ c.in_ok-lives.ensures ∙ ap declared c.deref.ensures.value in
     let forms = c.in_ok-forms.forms.items in
-    let of_pays = subst (λ (ps : List Pay). AllZip (IsFormOn (length told) (lives_of tables told)) (map pay_of ps) forms)
+    let of_pays = subst
+    (λ (ps : List Pay). AllZip (IsFormOn (length told) (lives_of tables told)) (map pay_of ps) forms)
     c.deref-2.ensures.value c.in_ok-forms.ensures in
     elim c.match-contract.branch [
       | in-Some+in_ok-form_of_pay+in_ok-push w ↦
