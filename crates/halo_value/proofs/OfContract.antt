@@ -16,6 +16,7 @@ use Rattle.halo_contract.specs.PlainContract.{PlainContract}
 use Rattle.halo_contract.specs.ValidContract.{IsValidContract}
 use Rattle.halo_contract.specs.declared.contract.LifeLine.{LifeLine}
 use Rattle.halo_contract.specs.declared.contract.ReserveLine.{ReserveLine}
+use Rattle.halo_contract.specs.declared.ties.Ties.{Ties}
 use Rattle.halo_model.specs.Basis.{Basis}
 use Rattle.halo_model.specs.ContractBasis.{basis_of, contract_basis}
 use Rattle.halo_model.specs.Horizon.{life_at}
@@ -25,12 +26,22 @@ use Rattle.halo_annuity.proofs.Living.{row-survives}
 use Rattle.halo_value.specs.ContractValues.{AreContractValues}
 use Rattle.halo_value.specs.PayValues.{ArePremiumValues, AreValuesOf}
 use Rattle.halo_value.specs.declared.pass.PayValues.{PayValues}
+use Rattle.halo_value.specs.declared.pass.TheConstants.{ALL_LIVES}
 use Rattle.halo_value.specs.Reading.{CanBeRead}
 use Rattle.halo_value.specs.Setting.{CanBeAsked, CanBeValued}
 
 -- the lives of some lines
 abbrev pub declared : List LifeLine → List Life
 declared lines = map (λ line. line.life) lines
+
+-- some lives at the start, with a rule for ties
+abbrev pub group_with : TableFile → List Life → Ties → PlainGroup
+group_with tables lives ties =
+    record { file = tables; lives = lives; start = 0; alive = ALL_LIVES; ties = ties }
+
+-- the lives of a contract at the start
+abbrev pub group_at_start : TableFile → PlainContract → PlainGroup
+group_at_start tables contract = group_with tables (declared contract.lives) contract.ties
 
 -- a sum in the two ways in which it is written
 sums-agree : {X : Type 0} (f : X → ℕ) (xs : List X) → sum_over xs f ≡ sum_by f xs
@@ -70,19 +81,19 @@ module _ (tables : TableFile) (contract : PlainContract) (valid : IsValidContrac
   pub amounts-few : sum_over contract.pays (λ (pay : PlainPay). pay.amount) ≤ GREATEST_AMOUNT
   amounts-few = omega (arith, sums-agree (λ (pay : PlainPay). pay.amount) contract.pays, valid.amounts)
 
-  module _ (g : PlainGroup) (file : g.file ≡ tables) (lives : g.lives ≡ declared contract.lives) where
-    pub reserves-read : IsSound tables → All (CanBeRead n g) contract.reserves
+  module _ (g : PlainGroup) (same : g ≡ group_at_start tables contract) where
+    pub reserves-read : IsSound g.file → All (CanBeRead n g) contract.reserves
     reserves-read sound k d within =
         let reserve = valid.reserves k d within in
+        let tables_sound : IsSound tables = subst (λ (group : PlainGroup). IsSound group.file) same sound in
         record {
           time_in = reserve.time_in;
-          alive = λ i below alive. rw (file, lives)
-              (survivor-at tables sound _ _ contract.lives reserve.alive i (omega (arith, below, count)) alive);
+          alive = λ i below alive. rw same
+              (survivor-at tables tables_sound _ _ contract.lives reserve.alive i (omega (arith, below, count)) alive);
         }
 
-    pub basis-is : g.ties ≡ contract.ties
-        → basis_of g.file contract.interest g.lives g.ties ≡ contract_basis tables contract
-    basis-is ties = rw (file, lives, ties) refl
+    pub basis-is : basis_of g.file contract.interest g.lives g.ties ≡ contract_basis tables contract
+    basis-is = rw same refl
 
   -- the values that were told are those of the contract
   pub values-are : (b : Basis) → b ≡ contract_basis tables contract → (pays : List PlainPay) → pays ≡ contract.pays

@@ -6,7 +6,6 @@ use Rattle.std.proofs.lemmas.Result.{IfOk-weaker}
 use Rattle.halo_status.specs.Pay.{pay_of}
 use Rattle.halo_status.specs.declared.pay.Pay.{Pay}
 use Rattle.halo_table.specs.DecrementTable.{HasRow}
-use Rattle.halo_table.specs.Sound.{IsSound}
 use Rattle.halo_table.specs.declared.lives.Life.{Life}
 use Rattle.halo_contract.specs.PlainContract.{PlainContract, contract_of}
 use Rattle.halo_contract.specs.declared.contract.LifeLine.{LifeLine}
@@ -14,12 +13,11 @@ use Rattle.halo_contract.specs.declared.contract.ReserveLine.{ReserveLine}
 use Rattle.halo_model.specs.Basis.{Basis}
 use Rattle.halo_model.specs.ContractBasis.{contract_basis, premium_status}
 use Rattle.halo_model.specs.Horizon.{life_at}
-use Rattle.halo_life.specs.PlainGroup.{PlainGroup}
 use Rattle.halo_lines.specs.Report.{report_of}
 use Rattle.halo_value.specs.ContractValues.{EnclosesReport}
 use Rattle.halo_value.specs.Reading.{CanBeRead}
 use Rattle.halo_value.specs.Setting.{CanBeValued}
-use Rattle.halo_value.proofs.OfContract.{basis-is, declared, pays-valued}
+use Rattle.halo_value.proofs.OfContract.{basis-is, declared, group_at_start, group_with, pays-valued}
 use Rattle.halo_value.proofs.OfContract.{premium-asked, reserves-read, rows-at, values-are}
 use Rattle.halo_value.proofs.contract.report.Goals as goal
 
@@ -49,14 +47,13 @@ values_of_pays-requires g c =
     let contract : PlainContract = contract_of c.args.contract.now in
     let lives : c.deref-2.result.now ≡ declared contract.lives =
     c.deref-2.ensures.value ∙ c.in_ok-lives.ensures ∙ ap declared c.deref.ensures.value in
-    let group = c.group_of-group.ensures in
-    let file = ap (λ (p : PlainGroup). p.file) group in
-    let sound : IsSound c.args.tables.now = subst IsSound file c.start-start.ensures.group.sound in
+    let group : c.group_of-group.result ≡ group_at_start c.args.tables.now contract =
+    c.group_of-group.ensures ∙ ap (λ (ls : List Life). group_with c.args.tables.now ls contract.ties) lives in
     let pays = subst (λ (ps : List Pay). All (CanBeValued g.row.N) (map pay_of ps)) (sym c.as_slice-pays.ensures.value)
     (pays-valued c.args.tables.now contract c.requires.valid g.row.N c.requires.lives) in
     let reserves = subst (All (CanBeRead g.row.N c.group_of-group.result)) (sym c.as_slice-reserves.ensures.value)
-    (reserves-read c.args.tables.now contract c.requires.valid g.row.N c.requires.lives c.group_of-group.result file
-    (ap (λ (p : PlainGroup). p.lives) group ∙ lives) sound) in
+    (reserves-read c.args.tables.now contract c.requires.valid g.row.N c.requires.lives c.group_of-group.result group
+    c.start-start.ensures.group.sound) in
     (lit< tt, (lit< tt, (c.requires.sets, (pays, reserves))))
 
 pub values_of_premium-requires : goal.values_of_premium-requires
@@ -64,13 +61,12 @@ values_of_premium-requires g c =
     let contract : PlainContract = contract_of c.args.contract.now in
     let lives : c.deref-2.result.now ≡ declared contract.lives =
     c.deref-2.ensures.value ∙ c.in_ok-lives.ensures ∙ ap declared c.deref.ensures.value in
-    let group = c.group_of-group.ensures in
-    let file = ap (λ (p : PlainGroup). p.file) group in
-    let sound : IsSound c.args.tables.now = subst IsSound file c.start-start.ensures.group.sound in
+    let group : c.group_of-group.result ≡ group_at_start c.args.tables.now contract =
+    c.group_of-group.ensures ∙ ap (λ (ls : List Life). group_with c.args.tables.now ls contract.ties) lives in
     let asked = premium-asked c.args.tables.now contract c.requires.valid g.row.N c.requires.lives in
     let reserves = subst (All (CanBeRead g.row.N c.group_of-group.result)) (sym c.as_slice-reserves.ensures.value)
-    (reserves-read c.args.tables.now contract c.requires.valid g.row.N c.requires.lives c.group_of-group.result file
-    (ap (λ (p : PlainGroup). p.lives) group ∙ lives) sound) in
+    (reserves-read c.args.tables.now contract c.requires.valid g.row.N c.requires.lives c.group_of-group.result group
+    c.start-start.ensures.group.sound) in
     (lit< tt, (lit< tt, (c.requires.sets, (asked, reserves))))
 
 pub report_lines-requires : goal.report_lines-requires
@@ -78,10 +74,10 @@ report_lines-requires g c =
     let contract : PlainContract = contract_of c.args.contract.now in
     let lives : c.deref-2.result.now ≡ declared contract.lives =
     c.deref-2.ensures.value ∙ c.in_ok-lives.ensures ∙ ap declared c.deref.ensures.value in
-    let group = c.group_of-group.ensures in
+    let group : c.group_of-group.result ≡ group_at_start c.args.tables.now contract =
+    c.group_of-group.ensures ∙ ap (λ (ls : List Life). group_with c.args.tables.now ls contract.ties) lives in
     let basis = basis-is c.args.tables.now contract c.requires.valid g.row.N c.requires.lives c.group_of-group.result
-    (ap (λ (p : PlainGroup). p.file) group) (ap (λ (p : PlainGroup). p.lives) group ∙ lives)
-    (ap (λ (p : PlainGroup). p.ties) group) in (
+    group in (
       contract_basis c.args.tables.now contract,
       (
         contract.premium,
@@ -99,10 +95,10 @@ returns-clause-encloses g c =
     let status = premium_status contract in
     let lives : c.deref-2.result.now ≡ declared contract.lives =
     c.deref-2.ensures.value ∙ c.in_ok-lives.ensures ∙ ap declared c.deref.ensures.value in
-    let group = c.group_of-group.ensures in
+    let group : c.group_of-group.result ≡ group_at_start c.args.tables.now contract =
+    c.group_of-group.ensures ∙ ap (λ (ls : List Life). group_with c.args.tables.now ls contract.ties) lives in
     let basis = basis-is c.args.tables.now contract c.requires.valid g.row.N c.requires.lives c.group_of-group.result
-    (ap (λ (p : PlainGroup). p.file) group) (ap (λ (p : PlainGroup). p.lives) group ∙ lives)
-    (ap (λ (p : PlainGroup). p.ties) group) in
+    group in
     let values = values-are c.args.tables.now contract c.requires.valid g.row.N c.requires.lives _ basis
     (map pay_of c.as_slice-pays.result.now) (ap (map pay_of) c.as_slice-pays.ensures.value)
     c.as_slice-reserves.result.now c.in_ok-values.values.items c.deref-3.result.now c.in_ok-due.due
