@@ -17,7 +17,7 @@ use Rattle.halo_model.specs.Counts.{lives_named}
 use Rattle.halo_model.specs.Backward.{backward, gain, loss}
 use Rattle.halo_model.proofs.Unnamed.{unnamed-do-not-count}
 use Rattle.halo_life.specs.Lists.{Lists, entry, nothing}
-use Rattle.halo_life.specs.Total.{is_within}
+use Rattle.halo_sums.specs.Within.{is_within}
 use Rattle.halo_life.specs.YearOfSets.{EncloseSurvivals}
 use Rattle.halo_annuity.specs.RunWorth.{EnclosesDiscountedSurvival}
 use Rattle.halo_annuity.specs.SetSteps.{CarriesBy}

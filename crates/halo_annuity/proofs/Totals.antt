@@ -28,7 +28,8 @@ use Rattle.halo_model.specs.Backward.{above_zero, backward, below_zero, gain, li
 use Rattle.halo_model.proofs.AfterHorizon.{nothing-after-horizon}
 use Rattle.halo_model.proofs.Backward.{annuity-by-sets, sets-ext, survivors-split}
 use Rattle.halo_life.specs.Lists.{Lists, entry, nothing}
-use Rattle.halo_life.specs.Total.{is_within, share, total_of}
+use Rattle.halo_sums.specs.Within.{is_within}
+use Rattle.halo_life.specs.Total.{share, total_of}
 use Rattle.halo_annuity.specs.Worth.{HoldValues, waited}
 use Rattle.halo_annuity.proofs.Carried.{positive-both, positive-left}
 use Rattle.halo_annuity.proofs.Counting.{count-has-room, widths-together}

@@ -5,7 +5,7 @@ use Rattle.halo_sums.specs.Sets.{in_set}
 use Rattle.halo_sums.proofs.Masks.{has_bit-bits}
 use Rattle.halo_model.specs.Backward.{lies_in}
 use Rattle.halo_model.specs.Life.{after_first}
-use Rattle.halo_life.specs.Total.{is_within}
+use Rattle.halo_sums.specs.Within.{is_within}
 use Rattle.halo_life.proofs.Within.{bit-below, bit-of-set, within-by, within-has}
 
 and-left : (a b : Bool) → (a && b) ≡ true → a ≡ true

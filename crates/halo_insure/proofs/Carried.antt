@@ -24,7 +24,7 @@ use Rattle.halo_model.specs.Payment.{factor, payment}
 use Rattle.halo_model.specs.SetValue.{SomeEvents}
 use Rattle.halo_poly.specs.Poly.{coefficient_at}
 use Rattle.halo_life.specs.Lists.{Lists, entry, nothing}
-use Rattle.halo_life.specs.Total.{is_within}
+use Rattle.halo_sums.specs.Within.{is_within}
 use Rattle.halo_life.specs.YearOfSets.{EncloseLeavings, EncloseSurvivals, leavings_of_set}
 use Rattle.halo_compile.proofs.Within.{has-other, within-is}
 use Rattle.halo_insure.specs.declared.due.Due.{Due}

@@ -25,7 +25,8 @@ use Rattle.halo_model.specs.Value.{denominator, numerator}
 use Rattle.halo_model.proofs.Backward.{survivors-split}
 use Rattle.halo_model.proofs.InsuranceBySets.{insurance-by-sets}
 use Rattle.halo_life.specs.Lists.{Lists, entry, nothing}
-use Rattle.halo_life.specs.Total.{is_within, share, total_of}
+use Rattle.halo_sums.specs.Within.{is_within}
+use Rattle.halo_life.specs.Total.{share, total_of}
 use Rattle.halo_compile.proofs.Sums.{sum-encloses, sum-narrow}
 use Rattle.halo_compile.proofs.Within.{within-is}
 use Rattle.halo_insure.specs.Dues.{due_by_both, due_of, set_worth}

@@ -4,7 +4,7 @@ use Rattle.halo_num.specs.Ends.{Ends}
 use Rattle.halo_model.specs.Backward.{above_zero, below_zero}
 use Rattle.halo_poly.specs.Poly.{coefficient_at}
 use Rattle.halo_life.specs.Lists.{Lists, entry, nothing}
-use Rattle.halo_life.specs.Total.{is_within}
+use Rattle.halo_sums.specs.Within.{is_within}
 use Rattle.halo_insure.specs.declared.sets.Year.{Year}
 use Rattle.halo_insure.specs.Dues.{due_by}
 use Rattle.halo_insure.specs.OneSet.{GoesBack}

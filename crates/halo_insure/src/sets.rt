@@ -4,7 +4,8 @@ ghost use Rattle.halo_num.specs.Ends.{IsSized, IsWithin, fine};
 ghost use Rattle.halo_model.specs.Backward.{above_zero, below_zero};
 ghost use Rattle.halo_poly.specs.Poly.{coefficient_at};
 ghost use Rattle.halo_life.specs.Lists.{entry, nothing};
-ghost use Rattle.halo_life.specs.Total.{AreModest, is_within};
+ghost use Rattle.halo_sums.specs.Within.{is_within};
+ghost use Rattle.halo_life.specs.Total.{AreModest};
 ghost use Rattle.halo_insure.specs.YearSets.{SetGoesBack, SetsGoBack, next_coefficient};
 
 use crate::due::{YearPays, due_above, due_below};

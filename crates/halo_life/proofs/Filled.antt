@@ -13,7 +13,7 @@ use Rattle.halo_contract.specs.declared.ties.Ties.{Ties}
 use Rattle.halo_contract.specs.declared.ties.Ties.TheVariants.{Even, Declared}
 use Rattle.halo_life.specs.Lists.{entry}
 use Rattle.halo_life.specs.PlainGroup.{is_even}
-use Rattle.halo_life.specs.Total.{is_within}
+use Rattle.halo_sums.specs.Within.{is_within}
 use Rattle.halo_life.specs.YearOfSets.{leavings_of_set, products_of_leavings}
 use Rattle.halo_life.specs.YearOfLives.{EnclosesLeaving, EnclosesSurvival}
 use Rattle.halo_life.proofs.OneSet.{size-of-lives}

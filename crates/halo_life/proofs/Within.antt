@@ -17,7 +17,7 @@ use Rattle.halo_sums.proofs.Sums.{sum_over-append, sum_over-map, sum_over-none}
 use Rattle.halo_model.specs.Life.{after_first}
 use Rattle.halo_model.specs.Backward.{lies_in}
 use Rattle.halo_sums.proofs.Numbers.{sum_over-numbers_ext}
-use Rattle.halo_life.specs.Total.{is_within}
+use Rattle.halo_sums.specs.Within.{is_within}
 use Rattle.halo_life.proofs.Subsets.{bits-less}
 use Rattle.halo_life.proofs.Sums.{sum_over-numbers_push}
 

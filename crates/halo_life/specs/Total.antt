@@ -1,12 +1,9 @@
 -- The value on a set of lives: what its subsets add, less what they take off.
-use Rattle.std.specs.Prelude.{ℕ, ◌<◌, ◌^◌, Bool, cond, nat_eq, bit_and, pos, ◌-ℤ◌}
+use Rattle.std.specs.Prelude.{ℕ, ◌<◌, ◌^◌, cond, pos, ◌-ℤ◌}
+use Rattle.halo_sums.specs.Within.{is_within}
 use Rattle.halo_sums.specs.Sums.{int_sum_over, numbers_from}
 use Rattle.halo_num.specs.Ends.{Ends, IsWithin}
 use Rattle.halo_life.specs.Lists.{Lists, entry, nothing}
-
--- whether each number of one mask is in another
-abbrev pub is_within : ℕ → ℕ → Bool
-is_within mask all = nat_eq (bit_and mask all) mask
 
 -- what a set adds to the value on another: the entry of `plus` less that of `minus` where it is a
 -- subset, else nothing

@@ -13,7 +13,7 @@ use Rattle.halo_model.specs.Order.{orders_taken}
 use Rattle.halo_contract.specs.declared.ties.Ties.{Ties}
 use Rattle.halo_model.specs.OrderLaws.{year_numbers}
 use Rattle.halo_life.specs.Lists.{entry, nothing}
-use Rattle.halo_life.specs.Total.{is_within}
+use Rattle.halo_sums.specs.Within.{is_within}
 use Rattle.halo_life.specs.YearOfSets.{leavings_of_set}
 use Rattle.halo_life.specs.PlainGroup.{PlainGroup}
 use Rattle.halo_life.specs.declared.year.Year.{Year}

@@ -13,7 +13,7 @@ use Rattle.halo_contract.specs.declared.ties.Ties.TheVariants.{Even, Declared}
 use Rattle.halo_model.specs.OrderLaws.{year_numbers}
 use Rattle.halo_model.specs.Outcome.{joint_survivors}
 use Rattle.halo_life.specs.Lists.{entry}
-use Rattle.halo_life.specs.Total.{is_within}
+use Rattle.halo_sums.specs.Within.{is_within}
 
 -- the list encloses, for each set of n lives within another, the chance that all of the set, alive
 -- at k, are alive at k + 1, with a width of 2 for each life of the set

@@ -9,3 +9,4 @@ pub mod Bounds
 pub mod SetMasks
 pub mod Choices
 pub mod SameLength
+pub mod Within

@@ -5,3 +5,4 @@ pub mod Coefficients
 pub mod Laws
 pub mod SetMasks
 pub mod Choices
+pub mod Within

@@ -8,5 +8,7 @@
 
 pub mod laws;
 mod mask;
+mod subsets;
 
 pub use mask::has_bit;
+pub use subsets::next_within;

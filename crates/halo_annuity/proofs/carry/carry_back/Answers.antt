@@ -3,7 +3,7 @@ use Rattle.halo_sums.specs.Sums.{numbers_from, sum_over}
 use Rattle.halo_sums.specs.Sets.{size_of}
 use Rattle.halo_sums.specs.Masks.{bits}
 use Rattle.halo_status.specs.Pay.{pay_of}
-use Rattle.halo_life.specs.Total.{is_within}
+use Rattle.halo_sums.specs.Within.{is_within}
 use Rattle.halo_compile.specs.OfTask.{basis_of_task, pay_of_task}
 use Rattle.halo_annuity.specs.OfTask.{named_of_task}
 use Rattle.halo_annuity.proofs.NamedSets.{held-same, named-sets, named-size, sets-carried, year-cost}

@@ -1,6 +1,6 @@
 use Rattle.std.proofs.Common.{arith, sym, ◌∙◌}
 use Rattle.std.proofs.lemmas.Int.{ints}
-use Rattle.halo_life.specs.Total.{is_within}
+use Rattle.halo_sums.specs.Within.{is_within}
 use Rattle.halo_life.proofs.Within.{is-within}
 use Rattle.halo_annuity.proofs.NamedSets.{set-cost}
 use Rattle.halo_annuity.proofs.carry.carry_set.Goals as goal

@@ -1,7 +1,7 @@
 use Rattle.std.proofs.Common.{◌≡◌, ℕ, cond, true, false, below_more, arith, ◌∙◌}
 use Rattle.halo_sums.specs.Sums.{numbers_from, sum_over}
 use Rattle.halo_life.specs.Lists.{entry, nothing}
-use Rattle.halo_life.specs.Total.{is_within}
+use Rattle.halo_sums.specs.Within.{is_within}
 use Rattle.halo_annuity.specs.SetSteps.{CarriesBy}
 use Rattle.halo_life.proofs.Sums.{sum_over-numbers_push}
 use Rattle.halo_annuity.proofs.NamedSets.{one-cost}

@@ -2,7 +2,7 @@ use Rattle.std.proofs.Common.{◌≡◌, ℕ, true, false, arith, ◌∙◌}
 use borrow.Author.Count.{below_more}
 use Rattle.halo_model.specs.Backward.{above_zero, below_zero}
 use Rattle.halo_life.specs.Lists.{entry, nothing}
-use Rattle.halo_life.specs.Total.{is_within}
+use Rattle.halo_sums.specs.Within.{is_within}
 use Rattle.halo_insure.specs.YearSets.{SetGoesBack}
 use Rattle.halo_insure.proofs.sets.sets_back.Goals as goal
 

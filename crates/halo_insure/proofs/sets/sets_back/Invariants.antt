@@ -1,7 +1,7 @@
 use Rattle.std.proofs.Common.{◌≡◌, ℕ, ◌+◌, ◌*◌, ◌<◌, ◌≤◌, false, true}
 use Rattle.halo_model.specs.Backward.{above_zero, below_zero}
 use Rattle.halo_life.specs.Lists.{entry, nothing}
-use Rattle.halo_life.specs.Total.{is_within}
+use Rattle.halo_sums.specs.Within.{is_within}
 use Rattle.halo_insure.specs.YearSets.{SetGoesBack}
 use Rattle.halo_insure.proofs.sets.sets_back.Given as goal
 
