@@ -15,8 +15,9 @@ use Rattle.halo_life.specs.Lists.{entry}
 use Rattle.halo_life.specs.PlainGroup.{is_even}
 use Rattle.halo_sums.specs.Within.{is_within}
 use Rattle.halo_life.specs.YearOfSets.{leavings_of_set, products_of_leavings}
-use Rattle.halo_life.specs.YearOfLives.{EnclosesLeaving, EnclosesSurvival}
+use Rattle.halo_life.specs.YearOfLives.{EnclosesLeaving, EnclosesSurvival, HasSmaller}
 use Rattle.halo_life.proofs.OneSet.{size-of-lives}
+use Rattle.halo_life.proofs.Within.{within-both}
 
 -- nobody is in the set of no bits
 nobody-in : (n : ℕ) → size_of (bits n 0) ≡ 0
@@ -51,27 +52,39 @@ leaving-of-nobody ties n y i e f = rw (none, nobody-in n) (record {
     none = ap (λ xs. sum_over (orders_taken ties n) (λ order. first_leaving y (rank_in order) xs)) (nobody n)
         ∙ sum_over-none (orders_taken ties n)
 
--- one set more has its chance, or is not within the named lives
+-- each set within the named lives has its chance, up to a number of masks
 abbrev pub AreFilled : (ℕ → Ends → Type 0) → ℕ → ℕ → List Ends → Type 0
 AreFilled IsChance named count list = (mask : ℕ)
     → mask < count → is_within mask named ≡ true → IsChance mask (entry list mask)
 
-module _ (IsChance : ℕ → Ends → Type 0) (named set : ℕ) where
-  pub filled-with : (old new : List Ends) (chance : Ends)
-      → AreFilled IsChance named set old → IsChance set chance → entry new set ≡ chance
-      → ((mask : ℕ) → mask ≢ set → entry new mask ≡ entry old mask) → AreFilled IsChance named (set + 1) new
-  filled-with old new chance before here written others mask low within = ⊎_elim
-      (λ (h : mask < set). let other : mask ≢ set = omega arith in rw (others mask other) (before mask h within))
-      (λ (h : set ≤ mask). let e : mask ≡ set = omega arith in rw (e, written) here)
-      (cases_lt mask set)
+-- so it is with the next set, once it is written
+pub filled-next : (IsChance : ℕ → Ends → Type 0) (named set next : ℕ) (old new : List Ends) (chance : Ends)
+    → ((mask : ℕ) → is_within mask named ≡ true → set < mask → next ≤ mask)
+    → AreFilled IsChance named (set + 1) old → IsChance next chance → entry new next ≡ chance
+    → ((mask : ℕ) → mask ≢ next → entry new mask ≡ entry old mask) → AreFilled IsChance named (next + 1) new
+filled-next IsChance named set next old new chance first before here written others mask low within = ⊎_elim
+    (λ (h : mask < next).
+    let other : mask ≢ next = omega arith in
+    rw (others mask other) (before mask (earlier h) within))
+    (λ (h : next ≤ mask). let e : mask ≡ next = omega arith in rw (e, written) here)
+    (cases_lt mask next)
+  where
+    earlier : mask < next → mask < set + 1
+    earlier h = ⊎_elim
+        (λ (l : set < mask). absurd (omega (arith, h, first mask within l)))
+        (λ (l : mask ≤ set). omega (arith, l))
+        (cases_lt set mask)
 
-  pub filled-without : (list : List Ends)
-      → is_within set named ≡ false → AreFilled IsChance named set list → AreFilled IsChance named (set + 1) list
-  filled-without list out before mask low within = ⊎_elim
-      (λ (h : mask < set). before mask h within)
-      (λ (h : set ≤ mask). let e : mask ≡ set = omega arith in
-      absurd (let in_it : is_within set named ≡ true = rw e at within in cc))
-      (cases_lt mask set)
+-- the chances of the sets before the next one are there
+pub filled-before : (IsChance : ℕ → Ends → Type 0) (named set next : ℕ) (list : List Ends)
+    → ((mask : ℕ) → is_within mask named ≡ true → set < mask → next ≤ mask)
+    → is_within next named ≡ true → AreFilled IsChance named (set + 1) list → HasSmaller IsChance next list
+filled-before IsChance named set next list first within filled part less inside =
+    let named_part = within-both part next named inside within in
+    filled part (⊎_elim
+    (λ (l : set < part). absurd (omega (arith, less, first part named_part l)))
+    (λ (l : part ≤ set). omega (arith, l))
+    (cases_lt set part)) named_part
 
 -- the products that all sets take, where each takes at most one, or one for each named life
 pub products-for-all : (ties : Ties) (n : ℕ) → cond (is_even ties) n 1 * 2 ^ n ≡ products_of_leavings ties n

@@ -4,6 +4,7 @@ pub mod Means
 pub mod Sure
 pub mod Rows
 pub mod Within
+pub mod Shares
 pub mod Orders
 pub mod OneSet
 pub mod Firsts

@@ -1,5 +1,6 @@
 -- Sums over the numbers below a bound, one number more.
-use Rattle.std.proofs.Common.{◌≡◌, ℕ, ◌+◌, arith, ap, ◌∙◌, [], ◌∷◌, ℤ, ◌+ℤ◌}
+use Rattle.std.proofs.Common.{◌≡◌, ℕ, zero, suc, ◌+◌, ◌<◌, ◌≤◌, arith, ap, refl, ◌∙◌, [], ◌∷◌, ℤ, pos, ◌+ℤ◌, ⊎_elim}
+use Rattle.std.proofs.lemmas.Bool.{cases_lt}
 use Rattle.std.proofs.lemmas.Int.{ints}
 use Rattle.halo_sums.specs.Sums.{int_sum_over, numbers_from, sum_over}
 use Rattle.halo_sums.proofs.IntSums.{int_sum_over-append}
@@ -19,3 +20,38 @@ sum_over-numbers_push n f =
     ap (λ ns. sum_over ns f) (numbers_from-split n 1)
     ∙ sum_over-append (numbers_from 0 n) (n ∷ []) f
     ∙ omega arith
+
+-- numbers that add nothing may be left out behind the others
+module _ (from : ℕ) where
+  pub int_sum_over-skip : (f : ℕ → ℤ) (to : ℕ)
+      → from ≤ to → ((i : ℕ) → from ≤ i → i < to → f i ≡ pos 0)
+      → int_sum_over (numbers_from 0 to) f ≡ int_sum_over (numbers_from 0 from) f
+  int_sum_over-skip f zero few none = let e : from ≡ 0 = omega (arith, few) in rw e refl
+  int_sum_over-skip f (suc to) few none = ⊎_elim
+      (λ (h : from < suc to).
+      let more : suc to ≡ to + 1 = omega arith in
+      ap (λ m. int_sum_over (numbers_from 0 m) f) more ∙ (omega (
+        arith,
+        ints,
+        int_sum_over-numbers_push to f,
+        none to (omega (arith, h)) (omega arith),
+        int_sum_over-skip f to (omega (arith, h)) (λ i after before. none i after (omega (arith, before))),
+      )))
+      (λ (h : suc to ≤ from). let e : from ≡ suc to = omega (arith, few, h) in rw e refl)
+      (cases_lt from (suc to))
+
+  pub sum_over-skip : (f : ℕ → ℕ) (to : ℕ)
+      → from ≤ to → ((i : ℕ) → from ≤ i → i < to → f i ≡ 0)
+      → sum_over (numbers_from 0 to) f ≡ sum_over (numbers_from 0 from) f
+  sum_over-skip f zero few none = let e : from ≡ 0 = omega (arith, few) in rw e refl
+  sum_over-skip f (suc to) few none = ⊎_elim
+      (λ (h : from < suc to).
+      let more : suc to ≡ to + 1 = omega arith in
+      ap (λ m. sum_over (numbers_from 0 m) f) more ∙ (omega (
+        arith,
+        sum_over-numbers_push to f,
+        none to (omega (arith, h)) (omega arith),
+        sum_over-skip f to (omega (arith, h)) (λ i after before. none i after (omega (arith, before))),
+      )))
+      (λ (h : suc to ≤ from). let e : from ≡ suc to = omega (arith, few, h) in rw e refl)
+      (cases_lt from (suc to))

@@ -1,5 +1,5 @@
 -- A mask within a mask is a set within a set: its lives, how many they are, and how many such sets there are.
-use Rattle.std.proofs.Common.{◌≡◌, ◌≢◌, pos, ℕ, zero, suc, ◌+◌, ◌*◌, ◌-◌, ◌^◌, ◌<◌, ◌≤◌, List, [], ◌∷◌, length, map, set, Bool, true, false, cond, ◌&&◌, nat_eq, min, arith, refl, ap, sym, ◌∙◌, ⊎_elim}
+use Rattle.std.proofs.Common.{◌≡◌, pos, ℕ, zero, suc, ◌+◌, ◌*◌, ◌-◌, ◌^◌, ◌<◌, ◌≤◌, List, [], ◌∷◌, length, map, set, Bool, true, false, cond, ◌&&◌, nat_eq, min, arith, refl, ap, sym, ◌∙◌, ⊎_elim}
 use Rattle.std.specs.Prelude.{bit_and}
 use Rattle.std.specs.Int.{bit_at}
 use Rattle.std.proofs.Math.Nat.{pow-suc}
@@ -18,8 +18,9 @@ use Rattle.halo_model.specs.Life.{after_first}
 use Rattle.halo_model.specs.Backward.{lies_in}
 use Rattle.halo_sums.proofs.Numbers.{sum_over-numbers_ext}
 use Rattle.halo_sums.specs.Within.{is_within}
+use Rattle.halo_sums.proofs.Within.{within-below}
 use Rattle.halo_life.proofs.Subsets.{bits-less}
-use Rattle.halo_life.proofs.Sums.{sum_over-numbers_push}
+use Rattle.halo_life.proofs.Sums.{sum_over-numbers_push, sum_over-skip}
 
 and-left : (a b : Bool) → (a && b) ≡ true → a ≡ true
 and-left true b e = refl
@@ -56,12 +57,6 @@ is-same m n e = grind (arith, nat_tests)
 pub is-within : (mask all : ℕ) → bit_and mask all ≡ mask → is_within mask all ≡ true
 is-within mask all e = same-is (bit_and mask all) mask e
 
-pub not-within : (mask all : ℕ) → bit_and mask all ≢ mask → is_within mask all ≡ false
-not-within mask all differ = apart (bit_and mask all) mask differ
-  where
-    apart : (m n : ℕ) → m ≢ n → nat_eq m n ≡ false
-    apart m n h = grind (arith, nat_tests)
-
 -- each life of a set within another is in it, and where it is so the set is within it
 pub within-has : (mask all : ℕ) → is_within mask all ≡ true → (i : ℕ) → has_bit mask i ≡ true → has_bit all i ≡ true
 within-has mask all within i there =
@@ -83,6 +78,10 @@ pub within-both : (part mask all : ℕ)
     → is_within part mask ≡ true → is_within mask all ≡ true → is_within part all ≡ true
 within-both part mask all first second =
     within-by part all (λ i there. within-has mask all second i (within-has part mask first i there))
+
+test-fails : (b : Bool) → (b ≡ true → ⊥) → b ≡ false
+test-fails true h = absurd (h refl)
+test-fails false h = refl
 
 same-tests : (a b : Bool) → (a ≡ true → b ≡ true) → (b ≡ true → a ≡ true) → a ≡ b
 same-tests true b h k = sym (h refl)
@@ -168,9 +167,8 @@ sums-of-masks : (n : ℕ) (f : List Bool → ℕ)
 sums-of-masks n f = pos_injective _ _ (sym (int_sum_over-pos (numbers_from 0 (2 ^ n)) (λ mask. f (bits n mask)))
     ∙ int_sum_over-masks n (λ s. pos (f s)) ∙ int_sum_over-pos (sets n) f)
 
-pub some-sets : (n : ℕ) → 1 ≤ 2 ^ n
-some-sets zero = omega arith
-some-sets (suc n) = let twice : 2 ^ suc n ≡ 2 ^ n * 2 = pow-suc 2 n in omega (arith, some-sets n)
+abbrev one_if : Bool → ℕ
+one_if is = cond is 1 0
 
 -- how many of the first masks are within another
 abbrev pub sets_within : ℕ → ℕ → ℕ
@@ -184,7 +182,30 @@ all-sets-within n all =
     ∙ ap (λ k. sum_over (sets k) (λ u. cond (lies_in u (in_set (bits n all))) 1 0)) (sym (length-bits n all))
     ∙ lying-sets (bits n all)
 
-pub one-set-more : (count all : ℕ) (is : Bool)
-    → is_within count all ≡ is → sets_within (count + 1) all ≡ sets_within count all + cond is 1 0
-one-set-more count all is e = sum_over-numbers_push count (λ mask. cond (is_within mask all) 1 0)
-    ∙ ap (λ t. sets_within count all + cond t 1 0) e
+-- the next set within another after one: no set is between the two
+module _ (all set next : ℕ) (later : set < next)
+    (first : (mask : ℕ) → is_within mask all ≡ true → set < mask → next ≤ mask) where
+  pub none-between : (mask : ℕ) → set + 1 ≤ mask → mask < next → is_within mask all ≡ false
+  none-between mask after before =
+      test-fails (is_within mask all) (λ within. omega (arith, before, first mask within (omega (arith, after))))
+
+  pub one-set-more : is_within next all ≡ true → sets_within (next + 1) all ≡ sets_within (set + 1) all + 1
+  one-set-more within =
+      sum_over-numbers_push next (λ mask. one_if (is_within mask all))
+      ∙ omega (
+        arith,
+        ap one_if within,
+        sum_over-skip (set + 1) (λ mask. one_if (is_within mask all)) next
+            (omega (arith, later)) (λ mask after before. ap one_if (none-between mask after before)),
+      )
+
+-- no set within another comes behind it
+pub none-behind : (mask all : ℕ) → all + 1 ≤ mask → is_within mask all ≡ false
+none-behind mask all behind =
+    test-fails (is_within mask all) (λ within. omega (arith, behind, within-below mask all within))
+
+-- so they are all among the masks up to it
+pub sets-up-to : (n all : ℕ) → all < 2 ^ n → sets_within (all + 1) all ≡ 2 ^ size_of (bits n all)
+sets-up-to n all below = sym (sum_over-skip (all + 1) (λ mask. one_if (is_within mask all)) (2 ^ n)
+    (omega (arith, below)) (λ mask after before. ap one_if (none-behind mask all after)))
+    ∙ all-sets-within n all

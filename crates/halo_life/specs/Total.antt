@@ -1,5 +1,5 @@
 -- The value on a set of lives: what its subsets add, less what they take off.
-use Rattle.std.specs.Prelude.{ℕ, ◌<◌, ◌^◌, cond, pos, ◌-ℤ◌}
+use Rattle.std.specs.Prelude.{◌≡◌, ℕ, ◌^◌, cond, true, pos, ◌-ℤ◌}
 use Rattle.halo_sums.specs.Within.{is_within}
 use Rattle.halo_sums.specs.Sums.{int_sum_over, numbers_from}
 use Rattle.halo_num.specs.Ends.{Ends, IsWithin}
@@ -23,8 +23,11 @@ total_of w m alive = record {
   hi = int_sum_over (numbers_from 0 m) (λ mask. (share w alive mask).hi);
 }
 
--- each of m entries of `plus` and `minus` is from 0 to 10^32 fine units, so that their sums stay
--- below 10^36
-abbrev pub AreModest : ℕ → Lists → Type 0
-AreModest m w = (mask : ℕ) → mask < m → IsWithin (entry w.plus mask) (pos 0) (pos (10 ^ 32))
+-- the entries of `plus` and `minus` at a set are from 0 to 10^32 fine units
+abbrev pub AreModestAt : ℕ → Lists → Type 0
+AreModestAt mask w = IsWithin (entry w.plus mask) (pos 0) (pos (10 ^ 32))
     × IsWithin (entry w.minus mask) (pos 0) (pos (10 ^ 32))
+
+-- so are those of the subsets of a set, so that their sums stay below 10^36
+abbrev pub AreModest : ℕ → Lists → Type 0
+AreModest alive w = (mask : ℕ) → is_within mask alive ≡ true → AreModestAt mask w

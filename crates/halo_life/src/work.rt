@@ -1,12 +1,14 @@
 // Room to work on all sets of lives at once.
-ghost use Rattle.std.specs.Prelude.{◌≡◌, ◌≢◌, ℕ, ◌^◌, ◌<◌, ◌≤◌, IfOk, neg_ℤ, pos};
+ghost use Rattle.std.specs.Prelude.{◌≡◌, ◌≢◌, ℕ, ◌^◌, ◌<◌, ◌≤◌, IfOk, neg_ℤ, pos, true};
 ghost use Rattle.halo_num.specs.Ends.{IsWithin};
 ghost use Rattle.halo_life.specs.Lists.{entry, nothing};
-ghost use Rattle.halo_life.specs.Total.{AreModest, share, total_of};
+ghost use Rattle.halo_life.specs.Total.{AreModest, AreModestAt, share, total_of};
+ghost use Rattle.halo_sums.specs.Within.{is_within};
 
 use crate::Memory;
 use crate::group::MOST_LIVES;
 use halo_num::Ival;
+use halo_sums::next_within;
 use std::alloc::Global;
 use std::marker::Model;
 
@@ -103,33 +105,34 @@ impl<const M: usize> Work<M> {
         self.minus[set as usize] = minus;
     }
 
-    /// The sum of `plus` less `minus` over the subsets of a set of lives.
+    /// The sum of `plus` less `minus` over the subsets of a set of lives. No other entry is read.
     pub fn total(&self, alive: u16) -> Ival
         requires few { M ≤ 2 ^ MOST_LIVES }
-        requires modest { AreModest M self.now }
+        requires below { alive < M }
+        requires modest { AreModest alive self.now }
         ensures lo { result.lo ≡ (total_of self.now M alive).lo }
         ensures hi { result.hi ≡ (total_of self.now M alive).hi }
     {
-        let mut sum = Ival::exact(0);
-        for set in 0..M as u16 {
-            sum = sum.add(self.share(set, alive));
+        let mut sum = self.share(0);
+        let mut set = 0;
+        while set != alive {
+            set = next_within(set, alive);
+            sum = sum.add(self.share(set));
         }
         sum
     }
 
-    // What a set adds to the sum over the subsets of `alive`.
-    fn share(&self, set: u16, alive: u16) -> Ival
-        requires within { set < M }
-        requires modest { AreModest M self.now }
-        ensures lo { result.lo ≡ (share self.now alive set).lo }
-        ensures hi { result.hi ≡ (share self.now alive set).hi }
+    // What a set adds to the sum over the subsets of a set that it is within.
+    fn share(&self, set: u16) -> Ival
+        requires below { set < M }
+        requires modest { AreModestAt set self.now }
+        ensures lo { (alive : ℕ) → is_within set alive ≡ true →
+            result.lo ≡ (share self.now alive set).lo }
+        ensures hi { (alive : ℕ) → is_within set alive ≡ true →
+            result.hi ≡ (share self.now alive set).hi }
         ensures modest { IsWithin result (neg_ℤ (pos (10 ^ 32))) (pos (10 ^ 32)) }
     {
-        if set & alive == set {
-            self.plus(set).sub(self.minus(set))
-        } else {
-            Ival::exact(0)
-        }
+        self.plus(set).sub(self.minus(set))
     }
 
     // Writes the entry of `survivals` at a set, and leaves all else.

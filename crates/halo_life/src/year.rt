@@ -14,7 +14,7 @@ use crate::group::{Group, MOST_LIVES};
 use crate::work::Work;
 use halo_interest::LAST_TIME;
 use halo_num::{Ival, ONE_IN_FINE_UNITS, Steps};
-use halo_sums::has_bit;
+use halo_sums::{has_bit, next_within};
 use std::sync::ledger::Ledger;
 
 /// The chances of a year of a life that is alive at its start.
@@ -60,6 +60,7 @@ impl<'a, const N: usize> Group<'a, N> {
         steps: &mut Steps<L>,
     )
         requires sets { M ≡ 2 ^ N }
+        requires named { named < M }
         requires year { k < LAST_TIME }
         ensures chances { EncloseSurvivals N (lives_of self.now.file self.now.lives) k named
             into.new.survivals }
@@ -70,11 +71,11 @@ impl<'a, const N: usize> Group<'a, N> {
     {
         let year = self.year_of_lives(k, 0, None);
         into.put_survival(0, Ival::exact(ONE_IN_FINE_UNITS));
-        for set in 1..M as u16 {
-            if set & named == set {
-                let chance = self.survival_of_set(&year, set, into, steps);
-                into.put_survival(set, chance);
-            }
+        let mut set = 0;
+        while set != named {
+            set = next_within(set, named);
+            let chance = self.survival_of_set(&year, set, into, steps);
+            into.put_survival(set, chance);
         }
     }
 
@@ -96,6 +97,7 @@ impl<'a, const N: usize> Group<'a, N> {
         steps: &mut Steps<L>,
     )
         requires sets { M ≡ 2 ^ N }
+        requires named { named < M }
         requires year { k < LAST_TIME }
         ensures chances { EncloseLeavings self.now.ties N
             (lives_of self.now.file self.now.lives) k named counted (asked causes)
@@ -108,11 +110,11 @@ impl<'a, const N: usize> Group<'a, N> {
     {
         let year = self.year_of_lives(k, counted, causes);
         into.put_leaving(0, Ival::exact(0));
-        for set in 1..M as u16 {
-            if set & named == set {
-                let chance = self.leaving_of_set(&year, set, into, steps);
-                into.put_leaving(set, chance);
-            }
+        let mut set = 0;
+        while set != named {
+            set = next_within(set, named);
+            let chance = self.leaving_of_set(&year, set, into, steps);
+            into.put_leaving(set, chance);
         }
     }
 

@@ -1,16 +1,17 @@
-use Rattle.std.proofs.Common.{◌≡◌, ◌+◌, ◌^◌, suc, lit<, length, true, false, arith, refl, ap, ◌∙◌}
+use Rattle.std.proofs.Common.{◌≡◌, ◌+◌, ◌<◌, suc, lit<, length, arith, refl, ap, ◌∙◌}
 use Rattle.halo_sums.specs.Masks.{bits}
 use Rattle.halo_sums.proofs.SetMasks.{length-bits}
+use Rattle.halo_sums.proofs.Within.{within-below}
 use Rattle.halo_model.specs.FromTables.{lives_of}
 use Rattle.halo_life.specs.YearOfLives.{EnclosesSurvival, numbers_of}
-use Rattle.halo_life.proofs.Filled.{filled-with, filled-without, survival-of-nobody}
-use Rattle.halo_life.proofs.Within.{all-sets-within, is-within, not-within, one-set-more, some-sets, within-both}
+use Rattle.halo_life.proofs.Filled.{filled-before, filled-next, survival-of-nobody}
+use Rattle.halo_life.proofs.Within.{one-set-more, sets-up-to}
 use Rattle.halo_life.proofs.YearChances.{joint-is, length-lives}
-use Rattle.halo_life.proofs.group.Group.survivals.Goals.{then-set-named, else-set-named}
 use Rattle.halo_life.proofs.group.Group.survivals.Goals as goal
 
 pub loop-set-init : goal.loop-set-init
 loop-set-init g c = record {
+  within = refl;
   sets = λ mask below within.
       let here : mask ≡ 0 = omega arith in
       rw (here, c.put_survival.ensures.written)
@@ -20,25 +21,26 @@ loop-set-init g c = record {
   plus = refl;
   minus = refl;
   cost = refl;
-  some = omega arith;
 }
 
 pub survival_of_set-chance-requires : goal.survival_of_set-chance-requires
 survival_of_set-chance-requires g c =
-    let within = is-within c.loop-set.set c.args.named c.if-set-named.true in (
+    let set = c.loop-set.set in
+    let next = c.next_within-set.ensures in
+    let IsChance = EnclosesSurvival g.row.N (numbers_of c.args.self.now c.year_of_lives-year.result) in (
       lit< tt,
       (
         lit< tt,
         (
           c.requires.sets,
           (
-            c.loop-set.invariant.some,
+            omega (arith, next.later),
             (
-              c.loop-set-test.true,
+              omega (arith, c.requires.named, within-below c.next_within-set.result c.args.named next.within),
               (
                 c.year_of_lives-year.ensures.years,
-                λ part less inside. c.loop-set.invariant.sets part less
-                    (within-both part c.loop-set.set c.args.named inside within),
+                filled-before IsChance c.args.named set c.next_within-set.result c.loop-set.into.survivals
+                    next.next next.within c.loop-set.invariant.sets,
               ),
             ),
           ),
@@ -50,38 +52,24 @@ pub loop-set-preserved : goal.loop-set-preserved
 loop-set-preserved g c =
     let i = c.loop-set.invariant in
     let set = c.loop-set.set in
+    let next = c.next_within-set.ensures in
+    let put = c.put_survival-in-loop-set.ensures in
     let IsChance = EnclosesSurvival g.row.N (numbers_of c.args.self.now c.year_of_lives-year.result) in
-    elim c.if-set-named.branch [
-      | then-set-named w ↦
-          let within = is-within set c.args.named w.if-set-named.true in
-          let put = w.put_survival-then-set-named.ensures in
-          record {
-            sets = rw w.into-is (filled-with IsChance c.args.named set c.loop-set.into.survivals
-                w.put_survival-then-set-named.new.self.survivals w.survival_of_set-chance.result
-                i.sets w.survival_of_set-chance.ensures.survival put.written put.others);
-            leavings = rw w.into-is (put.leavings ∙ i.leavings);
-            plus = rw w.into-is (put.plus ∙ i.plus);
-            minus = rw w.into-is (put.minus ∙ i.minus);
-            cost = omega (
-              arith,
-              w.steps-is,
-              w.survival_of_set-chance.ensures.cost,
-              i.cost,
-              one-set-more set c.args.named true within,
-            );
-            some = omega arith;
-          }
-      | else-set-named w ↦
-          let out = not-within set c.args.named w.if-set-named.false in
-          record {
-            sets = rw w.into-is (filled-without IsChance c.args.named set c.loop-set.into.survivals out i.sets);
-            leavings = rw w.into-is i.leavings;
-            plus = rw w.into-is i.plus;
-            minus = rw w.into-is i.minus;
-            cost = omega (arith, w.steps-is, i.cost, one-set-more set c.args.named false out);
-            some = omega arith;
-          }
-    ]
+    record {
+      within = next.within;
+      sets = filled-next IsChance c.args.named set c.next_within-set.result c.loop-set.into.survivals
+          c.put_survival-in-loop-set.new.self.survivals c.survival_of_set-chance.result next.next
+          i.sets c.survival_of_set-chance.ensures.survival put.written put.others;
+      leavings = put.leavings ∙ i.leavings;
+      plus = put.plus ∙ i.plus;
+      minus = put.minus ∙ i.minus;
+      cost = omega (
+        arith,
+        c.survival_of_set-chance.ensures.cost,
+        i.cost,
+        one-set-more c.args.named set c.next_within-set.result next.later next.next next.within,
+      );
+    }
 
 pub returns-clause-chances : goal.returns-clause-chances
 returns-clause-chances g c = λ mask below within.
@@ -90,13 +78,12 @@ returns-clause-chances g c = λ mask below within.
     let group = c.year_of_lives-year.ensures.group in
     let count : length lives ≡ n = length-lives n c.args.self.now group in
     let same = length-bits n mask in
-    let chance = c.loop-set.invariant.sets mask (omega (arith, below, c.requires.sets, c.loop-set-test.false)) within in
+    let all : mask < c.loop-set.set + 1 = omega (arith, within-below mask c.args.named within, c.loop-set-test.false) in
+    let chance = c.loop-set.invariant.sets mask all within in
     rw (joint-is n (suc c.args.k) lives (bits n mask) count same, joint-is n c.args.k lives (bits n mask) count same)
     (rw (c.year_of_lives-year.ensures.k) at chance)
 
 pub returns-clause-cost : goal.returns-clause-cost
 returns-clause-cost g c =
-    let end : c.loop-set.set ≡ 2 ^ g.row.N =
-    omega (arith, c.loop-set-test.false, c.requires.sets, c.loop-set.auto.set-end, some-sets g.row.N) in
-    let cost = rw end at c.loop-set.invariant.cost in
-    cost ∙ ap (λ k. c.args.steps.now + k) (all-sets-within g.row.N c.args.named)
+    let sets = sets-up-to g.row.N c.args.named (omega (arith, c.requires.named, c.requires.sets)) in
+    rw c.loop-set-test.false at c.loop-set.invariant.cost ∙ ap (λ k. c.args.steps.now + k) sets
