@@ -1,5 +1,5 @@
 -- A valuation at one time, and at the next.
-use Rattle.std.proofs.Common.{◌≡◌, ◌≢◌, ℕ, zero, suc, ◌+◌, ◌*◌, ◌-◌, ◌^◌, ◌<◌, ◌≤◌, List, Bool, true, false, ◌&&◌, cond, nat_le, nat_lt, arith, refl, ap, sym, ◌∙◌}
+use Rattle.std.proofs.Common.{◌≡◌, ◌≢◌, ℕ, zero, suc, ◌+◌, ◌*◌, ◌-◌, ◌<◌, ◌≤◌, List, Bool, true, false, ◌&&◌, cond, nat_le, nat_lt, arith, refl, ap, sym, ◌∙◌}
 use Rattle.std.proofs.lemmas.Bool.Decides.{nat_tests}
 use Rattle.halo_sums.specs.Sets.{in_set}
 use Rattle.halo_sums.specs.Masks.{bits}
@@ -13,9 +13,9 @@ use Rattle.halo_model.specs.Payment.{payment}
 use Rattle.halo_model.specs.Coefficient.{form}
 use Rattle.halo_model.specs.Backward.{above_zero, backward, below_zero, gain, loss, may_pay, paid_at, years_passed}
 use Rattle.halo_model.specs.Segment.{last_time_of_form}
-use Rattle.halo_life.specs.Lists.{Lists, entry, nothing}
+use Rattle.halo_life.specs.Lists.{Lists, entry}
 use Rattle.halo_annuity.specs.Worth.{EnclosesCarried, EnclosesSet, HoldCarried, HoldValues, paid_in_all, waited}
-use Rattle.halo_annuity.proofs.Passes.{none-carried, none-held, none-paid}
+use Rattle.halo_annuity.proofs.Passes.{HoldNothing, none-carried, none-held, none-paid}
 
 -- what is paid alike from a time on is worth the same
 module _ (b : Basis) (n : ℕ) (s : List Bool) (f g : ℕ → ℕ) where
@@ -105,34 +105,34 @@ module _ (b : Basis) (pay : PlainPay) (n t : ℕ) (lists : Lists) where
   -- the values of an annuity-due at the next time, as its values at t of what is paid after t
   pub due-carried : pay.kind ≡ Due
       → (years : ℕ) → HoldCarried b pay (suc t) n t years lists → HoldCarried b pay t n t years lists
-  due-carried is years held mask below =
+  due-carried is years held mask below named =
       let same : (u : ℕ) → suc t ≤ u → paid_at pay (suc t) u ≡ paid_at pay t u =
       λ u h. paid-same pay (suc t) t u (ap (λ k. may_pay k pay.defer (suc t) u) is
       ∙ due-next pay.defer t u h ∙ sym (ap (λ k. may_pay k pay.defer t u) is)) in (
         carried-alike b n
             (bits n mask) (gain pay (suc t) (bits n mask)) (gain pay t (bits n mask)) years t (entry lists.plus mask)
-            (λ u h. ap (λ (p : ℕ). p * above_zero (form pay u (bits n mask))) (same u h)) (held mask below).0,
+            (λ u h. ap (λ (p : ℕ). p * above_zero (form pay u (bits n mask))) (same u h)) (held mask below named).0,
         carried-alike b n
             (bits n mask) (loss pay (suc t) (bits n mask)) (loss pay t (bits n mask)) years t (entry lists.minus mask)
-            (λ u h. ap (λ (p : ℕ). p * below_zero (form pay u (bits n mask))) (same u h)) (held mask below).1,
+            (λ u h. ap (λ (p : ℕ). p * below_zero (form pay u (bits n mask))) (same u h)) (held mask below named).1,
       )
 
   -- the values of an annuity-immediate at a time, where it does not pay, as its values of what is paid after it for an
   -- earlier valuation
   pub immediate-carried : pay.kind ≡ Immediate → (T years more : ℕ)
       → T ≤ t → more ≡ suc years → HoldValues b pay t n t more lists → HoldCarried b pay T n t years lists
-  immediate-carried is T years more before e held mask below =
+  immediate-carried is T years more before e held mask below named =
       let none = none-at-once pay is t in
       let same : (u : ℕ) → suc t ≤ u → paid_at pay t u ≡ paid_at pay T u =
       λ u h. paid-same pay t T u (same-later pay.kind pay.defer t T u (omega arith) (omega arith)) in (
         carried-alike b n (bits n mask) (gain pay t (bits n mask)) (gain pay T (bits n mask)) years t
             (entry lists.plus mask) (λ u h. ap (λ (p : ℕ). p * above_zero (form pay u (bits n mask))) (same u h))
             (set-is-carried b n (bits n mask) (gain pay t (bits n mask)) years t (entry lists.plus mask) (times-none
-            (paid_at pay t t) (above_zero (form pay t (bits n mask))) none) (rw e at (held mask below).0)),
+            (paid_at pay t t) (above_zero (form pay t (bits n mask))) none) (rw e at (held mask below named).0)),
         carried-alike b n (bits n mask) (loss pay t (bits n mask)) (loss pay T (bits n mask)) years t
             (entry lists.minus mask) (λ u h. ap (λ (p : ℕ). p * below_zero (form pay u (bits n mask))) (same u h))
             (set-is-carried b n (bits n mask) (loss pay t (bits n mask)) years t (entry lists.minus mask) (times-none
-            (paid_at pay t t) (below_zero (form pay t (bits n mask))) none) (rw e at (held mask below).1)),
+            (paid_at pay t t) (below_zero (form pay t (bits n mask))) none) (rw e at (held mask below named).1)),
       )
     where
       times-none : (p k : ℕ) → p ≡ 0 → p * k ≡ 0
@@ -153,19 +153,15 @@ at-end Due annual years t some after more = absurd (omega arith)
 at-end Immediate annual years t some after more = (omega arith, refl)
 
 nothing-held : (b : Basis) (pay : PlainPay) (n t years : ℕ) (lists : Lists)
-    → (1 ≤ years → (years ≡ 1) × (paid_at pay t t ≡ 0))
-    → ((mask : ℕ) → mask < 2 ^ n → entry lists.plus mask ≡ nothing)
-    → ((mask : ℕ) → mask < 2 ^ n → entry lists.minus mask ≡ nothing) → HoldValues b pay t n t years lists
-nothing-held b pay n t zero lists one plus minus = none-held b pay t n t 0 lists refl plus minus
-nothing-held b pay n t (suc years) lists one plus minus =
+    → (1 ≤ years → (years ≡ 1) × (paid_at pay t t ≡ 0)) → HoldNothing pay n lists → HoldValues b pay t n t years lists
+nothing-held b pay n t zero lists one none = none-held b pay t n t 0 lists refl none
+nothing-held b pay n t (suc years) lists one none =
     let is = one (omega arith) in
-    none-paid b pay t n t 0 (suc years) lists is.0 is.1 (none-carried b pay t n t 0 lists refl plus minus)
+    none-paid b pay t n t 0 (suc years) lists is.0 is.1 (none-carried b pay t n t 0 lists refl none)
 
 pub nothing-left : (b : Basis) (pay : PlainPay) (n t years : ℕ) (lists : Lists)
-    → pay.kind ≢ Insurance → 1 ≤ years → years ≤ t
-    → ((mask : ℕ) → mask < 2 ^ n → entry lists.plus mask ≡ nothing)
-    → ((mask : ℕ) → mask < 2 ^ n → entry lists.minus mask ≡ nothing)
+    → pay.kind ≢ Insurance → 1 ≤ years → years ≤ t → HoldNothing pay n lists
     → HoldValues b pay t n t (suc (last_time_of_form pay.kind years) - t) lists
-nothing-left b pay n t years lists annual some after plus minus =
+nothing-left b pay n t years lists annual some after none =
     nothing-held b pay n t (suc (last_time_of_form pay.kind years) - t) lists
-    (λ more. let e = at-end pay.kind annual years t some after more in (e.0, none-at-once pay e.1 t)) plus minus
+    (λ more. let e = at-end pay.kind annual years t some after more in (e.0, none-at-once pay e.1 t)) none

@@ -1,5 +1,5 @@
 -- The values of all sets stay small numbers.
-use Rattle.std.proofs.Common.{◌≡◌, ℕ, zero, suc, ◌+◌, ◌*◌, ◌^◌, ◌≤◌, pos, arith}
+use Rattle.std.proofs.Common.{◌≡◌, ◌<◌, ℕ, zero, suc, ◌+◌, ◌*◌, ◌^◌, ◌≤◌, pos, arith}
 use Rattle.std.proofs.Math.Nat.{mul-le-mul_right}
 use Rattle.std.proofs.lemmas.Nat.{mul-le}
 use Rattle.std.proofs.lemmas.Int.{ints}
@@ -14,7 +14,8 @@ use Rattle.halo_model.specs.Counts.{greatest_factor}
 use Rattle.halo_model.specs.Basis.{Basis}
 use Rattle.halo_model.specs.Backward.{above_zero, below_zero, gain, loss, paid_at}
 use Rattle.halo_life.specs.Lists.{Lists}
-use Rattle.halo_life.specs.Total.{AreModest}
+use Rattle.halo_life.specs.Total.{AreModestAt}
+use Rattle.halo_compile.specs.NamedSets.{AreNamed}
 use Rattle.halo_annuity.specs.Worth.{HoldCarried, HoldValues, paid_in_all}
 use Rattle.halo_annuity.proofs.Counting.{paid-within}
 use Rattle.halo_sums.proofs.SetMasks.{length-bits}
@@ -58,9 +59,12 @@ small-within i most years few h within =
 
 module _ (b : Basis) (pay : PlainPay)
     (one : pay.amount ≡ 1) (varies : HasValidVary pay.vary) (T n : ℕ) (few : n ≤ 12) (lists : Lists) where
-  pub values-modest : (t years : ℕ) → t + years ≤ 201 → HoldValues b pay T n t years lists → AreModest (2 ^ n) lists
-  values-modest t years h values mask below =
-      let v = values mask below in (
+  abbrev AreModestSets : Type 0
+  AreModestSets = (mask : ℕ) → mask < 2 ^ n → AreNamed pay.body mask → AreModestAt mask lists
+
+  pub values-modest : (t years : ℕ) → t + years ≤ 201 → HoldValues b pay T n t years lists → AreModestSets
+  values-modest t years h values mask below named =
+      let v = values mask below named in (
         small-within _ _ years (omega (arith, h)) (most-small
             (gain pay T (bits n mask)) (201 * 2 ^ 11) years t (gain-small pay one varies T n mask few) h) v.0.within,
         small-within _ _ years (omega (arith, h)) (most-small
@@ -68,9 +72,9 @@ module _ (b : Basis) (pay : PlainPay)
       )
 
   pub carried-modest : (t years : ℕ)
-      → suc t + years ≤ 201 → HoldCarried b pay T n t years lists → AreModest (2 ^ n) lists
-  carried-modest t years h values mask below =
-      let v = values mask below in (
+      → suc t + years ≤ 201 → HoldCarried b pay T n t years lists → AreModestSets
+  carried-modest t years h values mask below named =
+      let v = values mask below named in (
         small-within _ _ years (omega (arith, h)) (most-small (gain pay T (bits n mask))
             (201 * 2 ^ 11) years (suc t) (gain-small pay one varies T n mask few) h) v.0.within,
         small-within _ _ years (omega (arith, h)) (most-small (loss pay T (bits n mask))

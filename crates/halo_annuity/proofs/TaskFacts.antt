@@ -1,5 +1,5 @@
 -- What a valid task says of its numbers, its lives and its pay.
-use Rattle.std.proofs.Common.{◌≡◌, ◌≢◌, ℕ, ◌+◌, ◌*◌, ◌<◌, ◌≤◌, List, Bool, cond, false, Option, Some, None, arith, refl, ⊎_elim}
+use Rattle.std.proofs.Common.{◌≡◌, ◌^◌, ◌≢◌, ℕ, ◌+◌, ◌*◌, ◌<◌, ◌≤◌, List, Bool, cond, false, Option, Some, None, arith, refl, ⊎_elim}
 use Rattle.std.proofs.Math.Nat.{mul-le-mul_right}
 use Rattle.std.proofs.lemmas.Bool.{cases_lt}
 use Rattle.std.proofs.lemmas.Nat.{mul-le}
@@ -17,7 +17,8 @@ use Rattle.halo_model.specs.Segment.{first_time, last_time_of_form}
 use Rattle.halo_model.specs.Backward.{may_pay, paid_at, years_passed}
 use Rattle.halo_model.proofs.HorizonIsLeast.{horizon-is-least}
 use Rattle.halo_life.specs.Lists.{Lists}
-use Rattle.halo_life.specs.Total.{AreModest}
+use Rattle.halo_life.specs.Total.{AreModestAt}
+use Rattle.halo_compile.specs.NamedSets.{AreNamed}
 use Rattle.halo_compile.proofs.Ranks.{ranks-ask}
 use Rattle.halo_annuity.proofs.Counting.{never-before}
 
@@ -62,9 +63,11 @@ no-mark pay valid annual = by-mark pay.mark refl
     by-mark None e = refl
     by-mark (Some mark) e = absurd (annual ((rw e at valid.mark).0))
 
--- lists with the same values are as modest
-pub modest-same : (m k : ℕ) (a b : Lists) → k ≡ m → a.plus ≡ b.plus → a.minus ≡ b.minus → AreModest m b → AreModest k a
-modest-same m k a b e plus minus h mask below = rw (plus, minus) (h mask (omega (arith, e, below)))
+-- with as many sets as there are of the lives of a task, the values of the sets of named lives are modest
+pub modest-sets : (m n : ℕ) (body : Tree) (lists : Lists) → m ≡ 2 ^ n
+    → ((mask : ℕ) → mask < 2 ^ n → AreNamed body mask → AreModestAt mask lists)
+    → (mask : ℕ) → mask < m → AreNamed body mask → AreModestAt mask lists
+modest-sets m n body lists sets modest mask below = modest mask (omega (arith, below, sets))
 
 -- a pass over some of the years of a horizon makes few enough products
 pub pass-cost : (years horizon named sets : ℕ) → years ≤ horizon

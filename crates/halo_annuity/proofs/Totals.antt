@@ -1,5 +1,5 @@
--- The total over the subsets of the living lives encloses the value of the annuity, within its count.
-use Rattle.std.proofs.Common.{◌≡◌, ◌≢◌, ℕ, zero, suc, ◌+◌, ◌*◌, ◌-◌, ◌^◌, ◌<◌, ◌≤◌, List, length, Bool, cond, true, false, None, ℤ, pos, negsuc, ◌-ℤ◌, ◌*ℤ◌, arith, refl, ap, sym, ◌∙◌}
+-- The total over the named sets of the living lives encloses the value of the annuity, within its count.
+use Rattle.std.proofs.Common.{◌≡◌, ◌≢◌, ℕ, zero, suc, ◌+◌, ◌*◌, ◌-◌, ◌^◌, ◌<◌, ◌≤◌, List, length, Bool, cond, true, false, None, ℤ, pos, negsuc, ◌-ℤ◌, ◌*ℤ◌, arith, refl, ap, sym, ◌∙◌, ⊎_elim}
 use Rattle.std.proofs.lemmas.Int.{ints}
 use Rattle.halo_sums.specs.Sums.{int_sum_over, numbers_from, sum_over}
 use Rattle.halo_sums.specs.Sets.{in_set, sets}
@@ -35,7 +35,10 @@ use Rattle.halo_annuity.proofs.Carried.{positive-both, positive-left}
 use Rattle.halo_annuity.proofs.Counting.{count-has-room, widths-together}
 use Rattle.halo_sums.proofs.SetMasks.{length-bits}
 use Rattle.halo_compile.proofs.Sums.{sum-encloses, sum-narrow, wider}
-use Rattle.halo_compile.proofs.Within.{within-is}
+use Rattle.halo_status.specs.Naming.{names_life}
+use Rattle.halo_model.proofs.Unnamed.{unnamed-do-not-count}
+use Rattle.halo_compile.specs.NamedSets.{IsNamedPart}
+use Rattle.halo_compile.proofs.NamedSets.{not-in-part, part-lies, part-named}
 
 -- years in which nothing is paid to lives that are alive do not count
 module _ (b : Basis) (s : List Bool) (paid : ℕ → ℕ) where
@@ -95,15 +98,36 @@ module _ (b : Basis) (rule : AreLives b.lives) (pay : PlainPay)
       cut paid h = let e : suc b.last_time - T ≡ (suc last - T) + (suc b.last_time - T - (suc last - T)) =
           omega arith in rw e (backward-cut b s paid (suc last - T) (suc b.last_time - T - (suc last - T)) T h)
 
+-- where nothing is paid, nothing is worth anything
+paid-nothing : (b : Basis) (s : List Bool) (paid : ℕ → ℕ) → ((u : ℕ) → paid u ≡ 0)
+    → (years t : ℕ) → backward b s paid t years ≡ 0
+paid-nothing b s paid none years t = backward-none b s paid years t (λ u from. rw (none u) (omega arith))
+
+-- a set with a life that the body does not name has no part
+unnamed-part : (b : Basis) (pay : PlainPay) → pay.mark ≡ None → (T : ℕ) (U : ℕ → Bool) (years : ℕ) (s : List Bool)
+    (life : ℕ) → in_set s life ≡ true → names_life life pay.body ≡ false → set_part b pay T U years s ≡ pos 0
+unnamed-part b pay plain T U years s life of_it unnamed = rw (
+  paid-nothing b s (gain pay T s) (λ u. let e = none u in rw e (omega arith)) years T,
+  paid-nothing b s (loss pay T s) (λ u. let e = none u in rw e (omega arith)) years T,
+) (no-part (lies_in s U) (joint_survivors T (outside U s) b.lives))
+  where
+    none : (u : ℕ) → form pay u s ≡ pos 0
+    none u = unnamed-do-not-count pay plain life unnamed u s of_it
+
+    no-part : (lies : Bool) (others : ℕ) → cond lies ((pos 0 -ℤ pos 0) *ℤ pos others) (pos 0) ≡ pos 0
+    no-part true others = omega (arith, ints)
+    no-part false others = refl
+
 -- what a set adds to the total encloses its part, over the survivors of all living lives
-module _ (b : Basis) (pay : PlainPay) (T n years : ℕ)
-    (lists : Lists) (values : HoldValues b pay T n T years lists) (count : length b.lives ≡ n) (alive : ℕ) where
+module _ (b : Basis) (pay : PlainPay) (plain : pay.mark ≡ None) (T n years : ℕ)
+    (lists : Lists) (values : HoldValues b pay T n T years lists) (count : length b.lives ≡ n)
+    (alive part : ℕ) (are : IsNamedPart pay.body alive part) where
   abbrev whole : ℕ
   whole = joint_survivors T (has_bit alive) b.lives * accumulated b T
 
   share-encloses : 0 < whole → (mask : ℕ)
-      → mask < 2 ^ n → Encloses (share lists alive mask) (set_part b pay T (has_bit alive) years (bits n mask)) whole
-  share-encloses some mask below = by-case (lies_in (bits n mask) (has_bit alive)) refl (within-is n mask alive below)
+      → mask < 2 ^ n → Encloses (share lists part mask) (set_part b pay T (has_bit alive) years (bits n mask)) whole
+  share-encloses some mask below = by-case (is_within mask part) refl
     where
       difference : Ends
       difference = record {
@@ -117,13 +141,19 @@ module _ (b : Basis) (pay : PlainPay) (T n years : ℕ)
       losses : ℕ
       losses = backward b (bits n mask) (loss pay T (bits n mask)) T years
 
-      by-case : (is : Bool)
-          → lies_in (bits n mask) (has_bit alive) ≡ is → is_within mask alive ≡ lies_in (bits n mask) (has_bit alive)
-          → Encloses (cond (is_within mask alive) difference nothing)
-          (cond (lies_in (bits n mask) (has_bit alive)) ((pos gains -ℤ pos losses)
-          *ℤ pos (joint_survivors T (outside (has_bit alive) (bits n mask)) b.lives)) (pos 0)) whole
-      by-case false lies same = rw (same, lies) (record { low = omega (arith, ints); high = omega (arith, ints) })
-      by-case true lies same =
+      zero-is-zero : Encloses nothing (pos 0) whole
+      zero-is-zero = record { low = omega (arith, ints); high = omega (arith, ints) }
+
+      by-case : (is : Bool) → is_within mask part ≡ is
+          → Encloses (share lists part mask) (set_part b pay T (has_bit alive) years (bits n mask)) whole
+      by-case false outside = rw outside (⊎_elim
+          (λ (lies : lies_in (bits n mask) (has_bit alive) ≡ false). rw lies zero-is-zero)
+          (λ other. rw (unnamed-part b pay plain T (has_bit alive) years (bits n mask) other.0 other.1 other.2)
+          zero-is-zero)
+          (not-in-part pay.body alive part are n mask below outside))
+      by-case true within =
+          let named = part-named pay.body alive part are n mask below within in
+          let lies = part-lies pay.body alive part are n mask below within in
           let set : ℕ = joint_survivors T (in_set (bits n mask)) b.lives in
           let others : ℕ = joint_survivors T (outside (has_bit alive) (bits n mask)) b.lives in
           let split = survivors-split T (has_bit alive) b.lives (bits n mask) (length-bits n mask ∙ sym count) lies in
@@ -132,23 +162,22 @@ module _ (b : Basis) (pay : PlainPay) (T n years : ℕ)
           positive-left (set * accumulated b T) others (omega (arith, some, all)) in
           let difference_is = encloses_sub (entry lists.plus mask)
           (entry lists.minus mask) difference (pos gains) (pos losses) (set * accumulated b T) refl refl
-          ((values mask below).0.encloses some_set) ((values mask below).1.encloses some_set) in
-          rw (same, lies) (encloses_at difference (pos gains -ℤ pos losses)
+          ((values mask below named).0.encloses some_set) ((values mask below named).1.encloses some_set) in
+          rw (within, lies) (encloses_at difference (pos gains -ℤ pos losses)
           ((pos gains -ℤ pos losses) *ℤ pos others) (set * accumulated b T) whole others difference_is refl all)
 
-  share-narrow : (mask : ℕ) → mask < 2 ^ n → HasWidth (share lists alive mask)
+  share-narrow : (mask : ℕ) → mask < 2 ^ n → HasWidth (share lists part mask)
       ((n + 2) * waited (gain pay T (bits n mask)) T years + (n + 2) * waited (loss pay T (bits n mask)) T years)
-  share-narrow mask below = by-case (is_within mask alive)
+  share-narrow mask below = by-case (is_within mask part) refl
     where
-      by-case : (is : Bool) → HasWidth (cond is (record {
-        lo = (entry lists.plus mask).lo
-            -ℤ (entry lists.minus mask).hi;
-        hi = (entry lists.plus mask).hi -ℤ (entry lists.minus mask).lo;
-      }) nothing)
-          ((n + 2) * waited (gain pay T (bits n mask)) T years + (n + 2) * waited (loss pay T (bits n mask)) T years)
-      by-case false = record { near = omega (arith, ints) }
-      by-case true = let p = (values mask below).0.narrow in
-          let m = (values mask below).1.narrow in record { near = omega (arith, ints, p.near, m.near) }
+      wide : ℕ
+      wide = (n + 2) * waited (gain pay T (bits n mask)) T years + (n + 2) * waited (loss pay T (bits n mask)) T years
+
+      by-case : (is : Bool) → is_within mask part ≡ is → HasWidth (share lists part mask) wide
+      by-case false outside = rw outside (record { near = omega (arith, ints) })
+      by-case true within =
+          let v = values mask below (part-named pay.body alive part are n mask below within) in
+          rw within (record { near = omega (arith, ints, v.0.narrow.near, v.1.narrow.near) })
 
 pub share-of-ties : (ties : Ties) (kind : Kind) (named : ℕ) → kind ≢ Insurance → order_share ties kind named ≡ 1
 share-of-ties ties Insurance named annual = absurd (annual refl)
@@ -160,20 +189,20 @@ share-of-ties Even Immediate named annual = refl
 -- the total encloses the value of the annuity
 pub total-encloses : (b : Basis) → AreLives b.lives
     → (pay : PlainPay) → pay.kind ≢ Insurance → pay.mark ≡ None → HasShortLists pay.body → HasPositiveRanks pay.body
-    → (T n alive : ℕ) (lists : Lists)
+    → (T n alive part : ℕ) → IsNamedPart pay.body alive part → (lists : Lists)
     → length b.lives ≡ n → T ≤ b.last_time → last_time_of_form pay.kind (horizon b.lives pay.body) ≤ b.last_time
     → HoldValues b pay T n T (suc (last_time_of_form pay.kind (horizon b.lives pay.body)) - T) lists
     → 0 < joint_survivors T (has_bit alive) b.lives → 0 < accumulated b T
     → Encloses
-    (total_of lists (2 ^ n) alive) (pos (numerator b pay T (has_bit alive))) (denominator b T (has_bit alive))
+    (total_of lists (2 ^ n) part) (pos (numerator b pay T (has_bit alive))) (denominator b T (has_bit alive))
 unfolding denominator
-total-encloses b rule pay annual plain short ranks T n alive lists count in_time before values some interest =
-    encloses_at (total_of lists (2 ^ n) alive) parts
+total-encloses b rule pay annual plain short ranks T n alive part are lists count in_time before values some interest =
+    encloses_at (total_of lists (2 ^ n) part) parts
     (pos (numerator b pay T (has_bit alive))) (joint_survivors T (has_bit alive) b.lives * accumulated b T)
     (length (taken b) * (joint_survivors T (has_bit alive) b.lives * accumulated b T)) (length (taken b))
-    (sum-encloses (share lists alive) (λ mask. set_part b pay T (has_bit alive) years (bits n mask))
+    (sum-encloses (share lists part) (λ mask. set_part b pay T (has_bit alive) years (bits n mask))
     (joint_survivors T (has_bit alive) b.lives * accumulated b T) (2 ^ n) 0
-    (λ mask below. share-encloses b pay T n years lists values count alive
+    (λ mask below. share-encloses b pay plain T n years lists values count alive part are
     (positive-both _ _ some interest) mask (omega arith)))
     (annuity-by-sets b rule pay annual plain T in_time (has_bit alive)
     ∙ mul_comm (pos (length (taken b))) _
@@ -191,12 +220,12 @@ total-encloses b rule pay annual plain short ranks T n alive lists count in_time
 
 -- and it is no wider than its count
 pub total-narrow : (b : Basis) (pay : PlainPay)
-    → pay.kind ≢ Insurance → pay.amount ≡ 1 → 1 ≤ nodes pay.body → 1 ≤ horizon b.lives pay.body
-    → (T n alive : ℕ) (lists : Lists) → length b.lives ≡ n → n ≤ 12
+    → pay.kind ≢ Insurance → pay.mark ≡ None → pay.amount ≡ 1 → 1 ≤ nodes pay.body → 1 ≤ horizon b.lives pay.body
+    → (T n alive part : ℕ) → IsNamedPart pay.body alive part → (lists : Lists) → length b.lives ≡ n → n ≤ 12
     → HoldValues b pay T n T (suc (last_time_of_form pay.kind (horizon b.lives pay.body)) - T) lists
-    → HasWidth (total_of lists (2 ^ n) alive) (width_count (measures_of b pay))
-total-narrow b pay annual one some_nodes some_years T n alive lists count few values =
-    wider (total_of lists (2 ^ n) alive) _ _
+    → HasWidth (total_of lists (2 ^ n) part) (width_count (measures_of b pay))
+total-narrow b pay annual plain one some_nodes some_years T n alive part are lists count few values =
+    wider (total_of lists (2 ^ n) part) _ _
     (omega (
       arith,
       each,
@@ -204,8 +233,8 @@ total-narrow b pay annual one some_nodes some_years T n alive lists count few va
       count-has-room n
           (measures_of b pay) (sum_over masks waits) few some_nodes (share-of-ties b.ties pay.kind _ annual) within,
     ))
-    (sum-narrow (share lists alive) widths
-    (2 ^ n) 0 (λ mask below. share-narrow b pay T n years lists values count alive mask (omega arith)))
+    (sum-narrow (share lists part) widths
+    (2 ^ n) 0 (λ mask below. share-narrow b pay plain T n years lists values count alive part are mask (omega arith)))
   where
     years : ℕ
     years = suc (last_time_of_form pay.kind (horizon b.lives pay.body)) - T

@@ -18,8 +18,8 @@ use Rattle.halo_compile.specs.OfTask.{basis_of_task, pay_of_task}
 use Rattle.halo_annuity.specs.OfTask.{last_of_task}
 use Rattle.halo_annuity.specs.Worth.{HoldValues}
 
--- the lists hold for each set what the annuity valued at t pays, whatever the time of the task's
--- group: an annuity-due from t on, an annuity-immediate after t
+-- the lists hold for each set of named lives what the annuity valued at t pays, whatever the time
+-- of the task's group: an annuity-due from t on, an annuity-immediate after t
 abbrev pub HoldAt : {n m : ℕ} → Task n m → ℕ → Lists → Type 0
 HoldAt {n} task t lists = (ties : Ties) →
     let years = suc (last_of_task task) - t in

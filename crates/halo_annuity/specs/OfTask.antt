@@ -1,18 +1,12 @@
--- The measures of a task: the last time of its form, how many lives it names, and the products of
--- a pass.
+-- The measures of a task: the last time of its form, and the products of a pass.
 use Rattle.std.specs.Prelude.{ℕ, ◌+◌, ◌*◌, ◌^◌}
-use Rattle.halo_status.specs.Pay.{pay_of}
-use Rattle.halo_model.specs.Counts.{lives_named}
 use Rattle.halo_model.specs.Segment.{last_time_of_form}
+use Rattle.halo_compile.specs.NamedSets.{named_of_task}
 use Rattle.halo_compile.specs.declared.task.Task.{Task}
 
 -- the last time of the form of a task
 abbrev pub last_of_task : {n m : ℕ} → Task n m → ℕ
 last_of_task task = last_time_of_form task.pay.now.kind task.horizon
-
--- how many lives its body names
-abbrev pub named_of_task : {n m : ℕ} → Task n m → ℕ
-named_of_task {n} task = lives_named n (pay_of task.pay.now).body
 
 -- the most products of a pass over the years on all sets of the lives named
 abbrev pub products_of_pass : {n m : ℕ} → Task n m → ℕ

@@ -10,6 +10,7 @@ use Rattle.halo_model.specs.Basis.{Basis, accumulated}
 use Rattle.halo_model.specs.Outcome.{joint_survivors}
 use Rattle.halo_model.specs.Backward.{backward, gain, loss}
 use Rattle.halo_life.specs.Lists.{Lists, entry}
+use Rattle.halo_compile.specs.NamedSets.{AreNamed}
 
 -- i encloses num / den where there is such a fraction, at most w wide; it is from 0 to so many ones
 pub record EnclosesSetWorth (num den most w : ℕ) (i : Ends) : Type 0 where
@@ -61,14 +62,15 @@ EnclosesCarried b n paid s t years i =
     ((n + 2) * (2 * paid_in_all paid (suc t) years + waited paid (suc t) years))
     i
 
--- the entries of all sets of n lives: what an annuity valued at T pays in so many years from t on
+-- the entries of all sets of named lives, of n: what an annuity valued at T pays in so many years
+-- from t on
 abbrev pub HoldValues : Basis → PlainPay → ℕ → ℕ → ℕ → ℕ → Lists → Type 0
-HoldValues b pay T n t years lists = (mask : ℕ) → mask < 2 ^ n →
+HoldValues b pay T n t years lists = (mask : ℕ) → mask < 2 ^ n → AreNamed pay.body mask →
     EnclosesSet b n (gain pay T (bits n mask)) (bits n mask) t years (entry lists.plus mask)
     × EnclosesSet b n (loss pay T (bits n mask)) (bits n mask) t years (entry lists.minus mask)
 
 -- and the same at time t of what it pays from the next time on
 abbrev pub HoldCarried : Basis → PlainPay → ℕ → ℕ → ℕ → ℕ → Lists → Type 0
-HoldCarried b pay T n t years lists = (mask : ℕ) → mask < 2 ^ n →
+HoldCarried b pay T n t years lists = (mask : ℕ) → mask < 2 ^ n → AreNamed pay.body mask →
     EnclosesCarried b n (gain pay T (bits n mask)) (bits n mask) t years (entry lists.plus mask)
     × EnclosesCarried b n (loss pay T (bits n mask)) (bits n mask) t years (entry lists.minus mask)

@@ -1,8 +1,10 @@
 // Annuities of 1 at the start of a group.
-ghost use Rattle.std.specs.Prelude.{◌≡◌, ◌≢◌, ℕ, ◌+◌, ◌≤◌, pos, ◌≤ℤ◌};
+ghost use Rattle.std.specs.Prelude.{◌≡◌, ◌≢◌, ℕ, ◌+◌, ◌<◌, ◌≤◌, pos, ◌≤ℤ◌};
 ghost use Rattle.halo_num.specs.Ends.{fine};
 ghost use Rattle.halo_status.specs.declared.pay.Kind.TheVariants.{Insurance};
-ghost use Rattle.halo_life.specs.Total.{AreModest, total_of};
+ghost use Rattle.halo_life.specs.Total.{AreModestAt, total_of};
+ghost use Rattle.halo_status.specs.Pay.{pay_of};
+ghost use Rattle.halo_compile.specs.NamedSets.{AreNamed, IsNamedPart};
 ghost use Rattle.halo_compile.specs.ValidTask.{IsTask};
 ghost use Rattle.halo_compile.specs.OfTask.{HaveSurvivorsAt};
 ghost use Rattle.halo_annuity.specs.AtTime.{EnclosesAnnuity, HoldAt, PaysAtOnce};
@@ -19,10 +21,10 @@ use std::sync::ledger::Ledger;
 /// The values of an annuity of 1 at the start of the task's group on every set of living lives, in
 /// one pass from the horizon back.
 ///
-/// Afterwards `work.total(alive)` encloses, for each set `alive` of lives that have a row at that
-/// time, the value of the annuity with just these lives alive, no wider than its count; `value_at`
-/// tells it within its bounds. The lives that the group says are alive are not looked at. With n
-/// lives named by the body and a horizon of H years the counter is raised by at most
+/// Afterwards the total over the named lives of a set encloses, for each set of lives that have a
+/// row at that time, the value of the annuity with just these lives alive, no wider than its count;
+/// `value_at` tells it within its bounds. The lives that the group says are alive are not looked
+/// at. With n lives named by the body and a horizon of H years the counter is raised by at most
 /// 8 (H + 1) (n + 1) 2^n, whatever the number of lives.
 pub fn annuity_all<const N: usize, const M: usize, L: Ledger>(
     task: &Task<N, M>,
@@ -33,9 +35,11 @@ pub fn annuity_all<const N: usize, const M: usize, L: Ledger>(
     requires annuity { task.now.pay.now.kind ≢ Insurance }
     ensures values { HoldAt task.now task.now.group.now.start work.new }
     ensures totals { let start = task.now.group.now.start in
-        (alive : ℕ) → HaveSurvivorsAt task.now start alive →
-        EnclosesAnnuity task.now start alive (total_of work.new M alive) }
-    ensures modest { AreModest M work.new }
+        (alive named : ℕ) → HaveSurvivorsAt task.now start alive →
+        IsNamedPart (pay_of task.now.pay.now).body alive named →
+        EnclosesAnnuity task.now start alive (total_of work.new M named) }
+    ensures modest { (set : ℕ) → set < M → AreNamed (pay_of task.now.pay.now).body set →
+        AreModestAt set work.new }
     ensures few { M ≤ 4096 }
     ensures cost { steps.new ≤ steps.old + products_of_pass task.now }
 {

@@ -1,15 +1,16 @@
-// A year back: what the values of the sets of lives are worth a year earlier.
+// A year back: what the values of the sets of named lives are worth a year earlier.
 ghost use Rattle.std.specs.Prelude.{◌≡◌, ◌≢◌, ℕ, suc, ◌+◌, ◌*◌, ◌^◌, ◌<◌, ◌≤◌, cond, true, false, pos, ◌≤ℤ◌};
 ghost use Rattle.halo_sums.specs.Sums.{numbers_from, sum_over};
 ghost use Rattle.halo_num.specs.Ends.{IsWithin, fine};
 ghost use Rattle.halo_contract.specs.declared.ties.Ties.{Ties};
 ghost use Rattle.halo_life.specs.Lists.{entry, nothing};
 ghost use Rattle.halo_sums.specs.Within.{is_within};
-ghost use Rattle.halo_life.specs.Total.{AreModest};
+ghost use Rattle.halo_life.specs.Total.{AreModest, AreModestAt};
+ghost use Rattle.halo_status.specs.Pay.{pay_of};
 ghost use Rattle.halo_compile.specs.ValidTask.{IsTask};
 ghost use Rattle.halo_status.specs.declared.pay.Kind.TheVariants.{Insurance};
 ghost use Rattle.halo_compile.specs.OfTask.{basis_of_task, pay_of_task};
-ghost use Rattle.halo_annuity.specs.OfTask.{named_of_task};
+ghost use Rattle.halo_compile.specs.NamedSets.{AreNamed, named_of_task};
 ghost use Rattle.halo_annuity.specs.SetSteps.{CarriesBy};
 ghost use Rattle.halo_annuity.specs.Worth.{Carries, HoldCarried, HoldValues};
 
@@ -17,11 +18,12 @@ use halo_compile::Task;
 use halo_interest::LAST_TIME;
 use halo_life::Work;
 use halo_num::{Ival, Steps};
+use halo_sums::next_within;
 use std::sync::ledger::Ledger;
 
-/// Carries the values of all sets back from time t + 1 to time `t`, for a valuation at any time.
-/// With n lives named by the body it makes at most 4 * 2^n products, whatever the number of lives;
-/// both values of a set with another life become 0.
+/// Carries the values of all sets of named lives back from time t + 1 to time `t`, for a valuation
+/// at any time. With n lives named by the body it makes at most 4 * 2^n products, whatever the
+/// number of lives; the values of a set with another life are not looked at.
 pub fn carry_back<const N: usize, const M: usize, L: Ledger>(
     task: &Task<N, M>,
     t: u16,
@@ -31,7 +33,8 @@ pub fn carry_back<const N: usize, const M: usize, L: Ledger>(
     requires task { IsTask task.now }
     requires annuity { task.now.pay.now.kind ≢ Insurance }
     requires time { t < LAST_TIME }
-    requires modest { AreModest M work.old }
+    requires modest { (set : ℕ) → set < M → AreNamed (pay_of task.now.pay.now).body set →
+        AreModestAt set work.old }
     ensures carried { (ties : Ties) (T years : ℕ) →
         let b = basis_of_task task.now ties in
         let pay = pay_of_task task.now in
@@ -45,67 +48,60 @@ pub fn carry_back<const N: usize, const M: usize, L: Ledger>(
     carry_sets(work, named, task.interest.year(t), steps);
 }
 
-// Carries both values of each set of named lives back by a year, and makes those of the others 0.
+// Carries both values of each set of named lives back by a year, and leaves those of the others.
 fn carry_sets<const M: usize, L: Ledger>(
     work: &mut Work<M>,
     named: u16,
     discount: Ival,
     steps: &mut Steps<L>,
 )
-    requires few { M ≤ 4096 }
+    requires below { named < M }
     requires discount { IsWithin discount (pos 0) (pos fine) }
-    requires survivals { (mask : ℕ) → mask < M → is_within mask named ≡ true →
+    requires survivals { (mask : ℕ) → is_within mask named ≡ true →
         IsWithin (entry work.old.survivals mask) (pos 0) (pos fine) }
-    requires modest { AreModest M work.old }
-    ensures plus { (mask : ℕ) → mask < M → is_within mask named ≡ true →
+    requires modest { AreModest named work.old }
+    ensures plus { (mask : ℕ) → is_within mask named ≡ true →
         CarriesBy discount (entry work.old.survivals mask)
         (entry work.old.plus mask) (entry work.new.plus mask) }
-    ensures minus { (mask : ℕ) → mask < M → is_within mask named ≡ true →
+    ensures minus { (mask : ℕ) → is_within mask named ≡ true →
         CarriesBy discount (entry work.old.survivals mask)
         (entry work.old.minus mask) (entry work.new.minus mask) }
-    ensures none { (mask : ℕ) → mask < M → is_within mask named ≡ false →
-        (entry work.new.plus mask ≡ nothing) × (entry work.new.minus mask ≡ nothing) }
+    ensures others { (mask : ℕ) → is_within mask named ≡ false →
+        (entry work.new.plus mask ≡ entry work.old.plus mask)
+        × (entry work.new.minus mask ≡ entry work.old.minus mask) }
     ensures cost { steps.new ≤
         steps.old + 3 * sum_over (numbers_from 0 M) (λ mask. cond (is_within mask named) 1 0) }
 {
-    for set in 0..M as u16 {
-        carry_set(work, set, named, discount, steps);
+    carry_set(work, 0, discount, steps);
+    let mut set = 0;
+    while set != named {
+        set = next_within(set, named);
+        carry_set(work, set, discount, steps);
     }
 }
 
 // Carries both values of a set back by a year: by its discount factor, and by the chance of the set
-// to survive it. Those of a set that is not within `named` become 0, without a product.
+// to survive it.
 fn carry_set<const M: usize, L: Ledger>(
     work: &mut Work<M>,
     set: u16,
-    named: u16,
     discount: Ival,
     steps: &mut Steps<L>,
 )
     requires set { set < M }
     requires discount { IsWithin discount (pos 0) (pos fine) }
-    requires survival { is_within set named ≡ true →
-        IsWithin (entry work.old.survivals set) (pos 0) (pos fine) }
-    requires plus { IsWithin (entry work.old.plus set) (pos 0) (pos (10 ^ 32)) }
-    requires minus { IsWithin (entry work.old.minus set) (pos 0) (pos (10 ^ 32)) }
-    ensures plus { is_within set named ≡ true →
-        CarriesBy discount (entry work.old.survivals set)
+    requires survival { IsWithin (entry work.old.survivals set) (pos 0) (pos fine) }
+    requires modest { AreModestAt set work.old }
+    ensures plus { CarriesBy discount (entry work.old.survivals set)
         (entry work.old.plus set) (entry work.new.plus set) }
-    ensures minus { is_within set named ≡ true →
-        CarriesBy discount (entry work.old.survivals set)
+    ensures minus { CarriesBy discount (entry work.old.survivals set)
         (entry work.old.minus set) (entry work.new.minus set) }
-    ensures none { is_within set named ≡ false →
-        (entry work.new.plus set ≡ nothing) × (entry work.new.minus set ≡ nothing) }
     ensures others { (mask : ℕ) → mask ≢ set →
         (entry work.new.plus mask ≡ entry work.old.plus mask)
         × (entry work.new.minus mask ≡ entry work.old.minus mask) }
     ensures survivals { work.new.survivals ≡ work.old.survivals }
-    ensures cost { steps.new ≤ steps.old + 3 * cond (is_within set named) 1 0 }
+    ensures cost { steps.new ≤ steps.old + 3 }
 {
-    if set & named != set {
-        work.put(set, Ival::exact(0), Ival::exact(0));
-        return;
-    }
     let chance = discount.mul(work.at(set), steps);
     let plus = carried(work.plus(set), chance, steps);
     let minus = carried(work.minus(set), chance, steps);

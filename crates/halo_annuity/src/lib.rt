@@ -1,10 +1,10 @@
 //! Annuities on the statuses of up to twelve lives, over the years backward.
 //!
-//! At each time each set of lives has two values, what its coefficient adds and what it takes off:
-//! what is paid then, and the values of the next time, discounted for a year and times the chance
-//! of the set to survive it. At the horizon nothing is left to be paid; one step gives the values
-//! of all sets at a time by those a year later, whatever the time of the valuation. The value at a
-//! time on some living lives is the total over their subsets.
+//! At each time each set of the lives that a body names has two values, what its coefficient adds
+//! and what it takes off: what is paid then, and the values of the next time, discounted for a year
+//! and times the chance of the set to survive it. At the horizon nothing is left to be paid; one
+//! step gives the values of all these sets at a time by those a year later, whatever the time of
+//! the valuation. The value at a time on some living lives is the total over the sets within them.
 #![tactic(auto)]
 
 mod annuities;

@@ -1,8 +1,9 @@
-// Payments to all sets of lives, one set after the other.
-ghost use Rattle.std.specs.Prelude.{◌≡◌, ◌≢◌, ℕ, ◌*◌, ◌^◌, ◌<◌, ◌≤◌, pos};
+// Payments to the sets of named lives, one set after the other.
+ghost use Rattle.std.specs.Prelude.{◌≡◌, ◌≢◌, ℕ, ◌*◌, ◌^◌, ◌<◌, ◌≤◌, false, true, pos};
 ghost use Rattle.halo_num.specs.Ends.{IsSized, IsWithin};
 ghost use Rattle.halo_life.specs.Lists.{entry, nothing};
-ghost use Rattle.halo_life.specs.Total.{AreModest};
+ghost use Rattle.halo_life.specs.Total.{AreModest, AreModestAt};
+ghost use Rattle.halo_sums.specs.Within.{is_within};
 ghost use Rattle.halo_model.specs.Backward.{above_zero, below_zero};
 ghost use Rattle.halo_poly.specs.Poly.{coefficient_at};
 ghost use Rattle.halo_annuity.specs.SetSteps.{GrowsBy};
@@ -12,33 +13,48 @@ use crate::payment::MOST_PAID;
 use halo_life::Work;
 use halo_num::Ival;
 use halo_poly::Poly;
+use halo_sums::next_within;
 
-/// Makes both values of each set exactly 0.
-pub fn clear<const M: usize>(work: &mut Work<M>)
-    requires few { M ≤ 4096 }
-    ensures plus { (mask : ℕ) → mask < M → entry work.new.plus mask ≡ nothing }
-    ensures minus { (mask : ℕ) → mask < M → entry work.new.minus mask ≡ nothing }
+/// Makes both values of each set within `named` exactly 0, and leaves those of all others.
+pub fn clear<const M: usize>(work: &mut Work<M>, named: u16)
+    requires below { named < M }
+    ensures plus { (mask : ℕ) → is_within mask named ≡ true → entry work.new.plus mask ≡ nothing }
+    ensures minus { (mask : ℕ) → is_within mask named ≡ true →
+        entry work.new.minus mask ≡ nothing }
+    ensures others { (mask : ℕ) → is_within mask named ≡ false →
+        (entry work.new.plus mask ≡ entry work.old.plus mask)
+        × (entry work.new.minus mask ≡ entry work.old.minus mask) }
 {
-    for set in 0..M as u16 {
+    work.put(0, Ival::exact(0), Ival::exact(0));
+    let mut set = 0;
+    while set != named {
+        set = next_within(set, named);
         work.put(set, Ival::exact(0), Ival::exact(0));
     }
 }
 
-/// Adds what each coefficient pays: to `plus` where it is above 0, to `minus` where it is below.
-pub fn pay_sets<const M: usize>(work: &mut Work<M>, paid: u16, poly: &Poly<M>)
-    requires few { M ≤ 4096 }
+/// Adds what the coefficient of each set within `named` pays: to `plus` where it is above 0, to
+/// `minus` where it is below. The values of all other sets are left.
+pub fn pay_sets<const M: usize>(work: &mut Work<M>, named: u16, paid: u16, poly: &Poly<M>)
+    requires below { named < M }
     requires paid { paid ≤ MOST_PAID }
-    requires sized { (mask : ℕ) → mask < M →
+    requires sized { (mask : ℕ) → is_within mask named ≡ true →
         IsSized (coefficient_at poly.now mask) GREATEST_COEFFICIENT }
-    requires modest { AreModest M work.old }
-    ensures plus { (mask : ℕ) → mask < M →
+    requires modest { AreModest named work.old }
+    ensures plus { (mask : ℕ) → is_within mask named ≡ true →
         GrowsBy (paid * above_zero (coefficient_at poly.now mask))
         (entry work.old.plus mask) (entry work.new.plus mask) }
-    ensures minus { (mask : ℕ) → mask < M →
+    ensures minus { (mask : ℕ) → is_within mask named ≡ true →
         GrowsBy (paid * below_zero (coefficient_at poly.now mask))
         (entry work.old.minus mask) (entry work.new.minus mask) }
+    ensures others { (mask : ℕ) → is_within mask named ≡ false →
+        (entry work.new.plus mask ≡ entry work.old.plus mask)
+        × (entry work.new.minus mask ≡ entry work.old.minus mask) }
 {
-    for set in 0..M as u16 {
+    pay_set(work, 0, paid, poly.coefficient(0));
+    let mut set = 0;
+    while set != named {
+        set = next_within(set, named);
         pay_set(work, set, paid, poly.coefficient(set));
     }
 }
@@ -48,8 +64,7 @@ fn pay_set<const M: usize>(work: &mut Work<M>, set: u16, paid: u16, coefficient:
     requires set { set < M }
     requires paid { paid ≤ MOST_PAID }
     requires sized { IsSized coefficient GREATEST_COEFFICIENT }
-    requires plus { IsWithin (entry work.old.plus set) (pos 0) (pos (10 ^ 32)) }
-    requires minus { IsWithin (entry work.old.minus set) (pos 0) (pos (10 ^ 32)) }
+    requires modest { AreModestAt set work.old }
     ensures plus { GrowsBy (paid * above_zero coefficient)
         (entry work.old.plus set) (entry work.new.plus set) }
     ensures minus { GrowsBy (paid * below_zero coefficient)

@@ -1,12 +1,14 @@
-// The pass year by year: all sets of lives at the horizon, and a year back.
+// The pass year by year: all sets of named lives at the horizon, and a year back.
 ghost use Rattle.std.specs.Prelude.{◌≡◌, ◌≢◌, ℕ, suc, ◌+◌, ◌*◌, ◌^◌, ◌<◌, ◌≤◌};
 ghost use Rattle.halo_status.specs.declared.pay.Kind.TheVariants.{Due, Immediate, Insurance};
 ghost use Rattle.halo_contract.specs.declared.ties.Ties.{Ties};
-ghost use Rattle.halo_life.specs.Total.{AreModest};
+ghost use Rattle.halo_life.specs.Total.{AreModestAt};
+ghost use Rattle.halo_status.specs.Pay.{pay_of};
 ghost use Rattle.halo_compile.specs.ValidTask.{IsTask};
 ghost use Rattle.halo_annuity.specs.AtTime.{HoldAt};
 ghost use Rattle.halo_compile.specs.OfTask.{basis_of_task, pay_of_task};
-ghost use Rattle.halo_annuity.specs.OfTask.{last_of_task, named_of_task};
+ghost use Rattle.halo_annuity.specs.OfTask.{last_of_task};
+ghost use Rattle.halo_compile.specs.NamedSets.{AreNamed, named_of_task};
 ghost use Rattle.halo_annuity.specs.Worth.{HoldCarried, HoldValues};
 
 use crate::carry::carry_back;
@@ -18,19 +20,20 @@ use halo_num::Steps;
 use halo_status::Kind;
 use std::sync::ledger::Ledger;
 
-/// The values of all sets at the horizon of the task, and at any later time: nothing is left to be
-/// paid.
+/// The values of all sets of named lives at the horizon of the task, and at any later time: nothing
+/// is left to be paid.
 pub fn at_horizon<const N: usize, const M: usize>(task: &Task<N, M>, work: &mut Work<M>)
     requires task { IsTask task.now }
     requires annuity { task.now.pay.now.kind ≢ Insurance }
     ensures values { (t : ℕ) → task.now.horizon ≤ t → HoldAt task.now t work.new }
 {
     let _start = task.group.start();
-    clear(work);
+    clear(work, task.pay.body.lives());
 }
 
-/// The values of all sets at time `t`, by those at time t + 1. They do not depend on the time of
-/// the task's group. With n lives named by the body the counter is raised by at most 4 * 2^n.
+/// The values of all sets of named lives at time `t`, by those at time t + 1. They do not depend on
+/// the time of the task's group. With n lives named by the body the counter is raised by at most
+/// 4 * 2^n.
 pub fn year_back<const N: usize, const M: usize, L: Ledger>(
     task: &Task<N, M>,
     t: u16,
@@ -94,7 +97,8 @@ fn year_back_immediate<const N: usize, const M: usize, L: Ledger>(
 fn pay<const N: usize, const M: usize>(task: &Task<N, M>, start: u16, t: u16, work: &mut Work<M>)
     requires task { IsTask task.now }
     requires to { t ≤ last_of_task task.now }
-    requires modest { AreModest M work.old }
+    requires modest { (set : ℕ) → set < M → AreNamed (pay_of task.now.pay.now).body set →
+        AreModestAt set work.old }
     ensures paid { (ties : Ties) (years : ℕ) →
         let b = basis_of_task task.now ties in
         let pay = pay_of_task task.now in
@@ -106,5 +110,5 @@ fn pay<const N: usize, const M: usize>(task: &Task<N, M>, start: u16, t: u16, wo
     if paid == 0 {
         return;
     }
-    pay_sets(work, paid, task.form.at(t));
+    pay_sets(work, task.pay.body.lives(), paid, task.form.at(t));
 }

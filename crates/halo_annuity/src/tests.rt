@@ -288,7 +288,7 @@ fn assert_all_sets<L: Ledger>(
     annuity_all(&task, &mut work, steps);
     for alive in 0..8_u16 {
         let value = value_of(alloc, tables, interest, pay, alive, steps)?;
-        let total = work.total(alive);
+        let total = work.total(alive & pay.body.lives());
         assert_eq!(rt;
             (total.lo(), total.hi()),
             (value.lo(), value.hi()),

@@ -38,7 +38,7 @@ pub fn value_at<const N: usize, const M: usize>(
     // The proof sees here that each year has a fraction, and that the lives have rows.
     let _fractions = task.interest.fractions();
     let _start = task.group.start();
-    let total = work.total(alive);
+    let total = work.total(alive & task.pay.body.lives());
     between(total, least_worth(task, t, alive), most_worth(task))
 }
 

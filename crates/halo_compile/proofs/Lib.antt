@@ -15,3 +15,4 @@ pub mod Sums
 pub mod Tasks
 pub mod Within
 pub mod Interest
+pub mod NamedSets

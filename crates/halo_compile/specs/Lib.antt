@@ -4,3 +4,4 @@ pub mod Terms
 pub mod Weight
 pub mod ValidTask
 pub mod OfTask
+pub mod NamedSets

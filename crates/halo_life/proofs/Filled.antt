@@ -1,6 +1,5 @@
 -- A list of the chances of all sets, from the set of nobody on.
-use Rattle.std.proofs.Common.{◌≡◌, ◌≢◌, ℕ, zero, suc, ◌+◌, ◌*◌, ◌/◌, ◌%◌, ◌^◌, ◌<◌, ◌≤◌, List, [], ◌∷◌, length, Bool, true, false, cond, pos, arith, refl, ap, ◌∙◌, ⊎_elim}
-use Rattle.std.proofs.lemmas.Bool.{cases_lt}
+use Rattle.std.proofs.Common.{◌≡◌, ◌≢◌, ℕ, zero, suc, ◌+◌, ◌*◌, ◌/◌, ◌%◌, ◌^◌, ◌<◌, ◌≤◌, List, [], ◌∷◌, length, Bool, true, false, cond, pos, arith, refl, ap, ◌∙◌}
 use Rattle.std.proofs.lemmas.Int.{ints}
 use Rattle.halo_sums.specs.Masks.{bits}
 use Rattle.halo_sums.specs.Sets.{in_set, size_of}
@@ -17,7 +16,7 @@ use Rattle.halo_sums.specs.Within.{is_within}
 use Rattle.halo_life.specs.YearOfSets.{leavings_of_set, products_of_leavings}
 use Rattle.halo_life.specs.YearOfLives.{EnclosesLeaving, EnclosesSurvival, HasSmaller}
 use Rattle.halo_life.proofs.OneSet.{size-of-lives}
-use Rattle.halo_life.proofs.Within.{within-both}
+use Rattle.halo_life.proofs.Within.{before-next, up-to-next}
 
 -- nobody is in the set of no bits
 nobody-in : (n : ℕ) → size_of (bits n 0) ≡ 0
@@ -57,34 +56,22 @@ abbrev pub AreFilled : (ℕ → Ends → Type 0) → ℕ → ℕ → List Ends �
 AreFilled IsChance named count list = (mask : ℕ)
     → mask < count → is_within mask named ≡ true → IsChance mask (entry list mask)
 
--- so it is with the next set, once it is written
-pub filled-next : (IsChance : ℕ → Ends → Type 0) (named set next : ℕ) (old new : List Ends) (chance : Ends)
-    → ((mask : ℕ) → is_within mask named ≡ true → set < mask → next ≤ mask)
-    → AreFilled IsChance named (set + 1) old → IsChance next chance → entry new next ≡ chance
-    → ((mask : ℕ) → mask ≢ next → entry new mask ≡ entry old mask) → AreFilled IsChance named (next + 1) new
-filled-next IsChance named set next old new chance first before here written others mask low within = ⊎_elim
-    (λ (h : mask < next).
-    let other : mask ≢ next = omega arith in
-    rw (others mask other) (before mask (earlier h) within))
-    (λ (h : next ≤ mask). let e : mask ≡ next = omega arith in rw (e, written) here)
-    (cases_lt mask next)
-  where
-    earlier : mask < next → mask < set + 1
-    earlier h = ⊎_elim
-        (λ (l : set < mask). absurd (omega (arith, h, first mask within l)))
-        (λ (l : mask ≤ set). omega (arith, l))
-        (cases_lt set mask)
+module _ (IsChance : ℕ → Ends → Type 0) (named set next : ℕ) (later : set < next)
+    (first : (mask : ℕ) → is_within mask named ≡ true → set < mask → next ≤ mask) where
+  -- so it is with the next set, once it is written
+  pub filled-next : (old new : List Ends) (chance : Ends)
+      → AreFilled IsChance named (set + 1) old → IsChance next chance → entry new next ≡ chance
+      → ((mask : ℕ) → mask ≢ next → entry new mask ≡ entry old mask) → AreFilled IsChance named (next + 1) new
+  filled-next old new chance before here written others =
+      up-to-next named set next later first (λ mask. IsChance mask (entry new mask))
+      (λ mask low within. let other : mask ≢ next = omega (arith, low, later) in
+      rw (others mask other) (before mask low within)) (rw written here)
 
--- the chances of the sets before the next one are there
-pub filled-before : (IsChance : ℕ → Ends → Type 0) (named set next : ℕ) (list : List Ends)
-    → ((mask : ℕ) → is_within mask named ≡ true → set < mask → next ≤ mask)
-    → is_within next named ≡ true → AreFilled IsChance named (set + 1) list → HasSmaller IsChance next list
-filled-before IsChance named set next list first within filled part less inside =
-    let named_part = within-both part next named inside within in
-    filled part (⊎_elim
-    (λ (l : set < part). absurd (omega (arith, less, first part named_part l)))
-    (λ (l : part ≤ set). omega (arith, l))
-    (cases_lt set part)) named_part
+  -- the chances of the sets within it are there before
+  pub filled-before : (list : List Ends)
+      → is_within next named ≡ true → AreFilled IsChance named (set + 1) list → HasSmaller IsChance next list
+  filled-before list within filled part less inside =
+      let is = before-next named set next later first within part less inside in filled part is.0 is.1
 
 -- the products that all sets take, where each takes at most one, or one for each named life
 pub products-for-all : (ties : Ties) (n : ℕ) → cond (is_even ties) n 1 * 2 ^ n ≡ products_of_leavings ties n

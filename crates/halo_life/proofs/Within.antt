@@ -1,5 +1,5 @@
 -- A mask within a mask is a set within a set: its lives, how many they are, and how many such sets there are.
-use Rattle.std.proofs.Common.{◌≡◌, pos, ℕ, zero, suc, ◌+◌, ◌*◌, ◌-◌, ◌^◌, ◌<◌, ◌≤◌, List, [], ◌∷◌, length, map, set, Bool, true, false, cond, ◌&&◌, nat_eq, min, arith, refl, ap, sym, ◌∙◌, ⊎_elim}
+use Rattle.std.proofs.Common.{◌≡◌, ◌≢◌, pos, ℕ, zero, suc, ◌+◌, ◌*◌, ◌-◌, ◌^◌, ◌<◌, ◌≤◌, List, [], ◌∷◌, length, map, set, Bool, true, false, cond, ◌&&◌, nat_eq, min, arith, refl, ap, sym, ◌∙◌, ⊎_elim}
 use Rattle.std.specs.Prelude.{bit_and}
 use Rattle.std.specs.Int.{bit_at}
 use Rattle.std.proofs.Math.Nat.{pow-suc}
@@ -53,9 +53,6 @@ same-is m n e = grind (arith, nat_tests)
 
 is-same : (m n : ℕ) → nat_eq m n ≡ true → m ≡ n
 is-same m n e = grind (arith, nat_tests)
-
-pub is-within : (mask all : ℕ) → bit_and mask all ≡ mask → is_within mask all ≡ true
-is-within mask all e = same-is (bit_and mask all) mask e
 
 -- each life of a set within another is in it, and where it is so the set is within it
 pub within-has : (mask all : ℕ) → is_within mask all ≡ true → (i : ℕ) → has_bit mask i ≡ true → has_bit all i ≡ true
@@ -189,6 +186,26 @@ module _ (all set next : ℕ) (later : set < next)
   none-between mask after before =
       test-fails (is_within mask all) (λ within. omega (arith, before, first mask within (omega (arith, after))))
 
+  earlier : (mask : ℕ) → is_within mask all ≡ true → mask < next → mask < set + 1
+  earlier mask within before = ⊎_elim
+      (λ (after : set < mask). absurd (omega (arith, before, first mask within after)))
+      (λ (h : mask ≤ set). omega (arith, h))
+      (cases_lt set mask)
+
+  -- what holds of the sets up to one and of the next one
+  pub up-to-next : (P : ℕ → Type 0) → ((mask : ℕ) → mask < set + 1 → is_within mask all ≡ true → P mask) → P next
+      → (mask : ℕ) → mask < next + 1 → is_within mask all ≡ true → P mask
+  up-to-next P before here mask low within = ⊎_elim
+      (λ (h : mask < next). before mask (earlier mask within h) within)
+      (λ (h : next ≤ mask). let e : mask ≡ next = omega arith in rw e here)
+      (cases_lt mask next)
+
+  -- a set before the next one, within it
+  pub before-next : is_within next all ≡ true → (mask : ℕ) → mask < next → is_within mask next ≡ true
+      → (mask < set + 1) × (is_within mask all ≡ true)
+  before-next inside mask low within =
+      let in_all = within-both mask next all within inside in (earlier mask in_all low, in_all)
+
   pub one-set-more : is_within next all ≡ true → sets_within (next + 1) all ≡ sets_within (set + 1) all + 1
   one-set-more within =
       sum_over-numbers_push next (λ mask. one_if (is_within mask all))
@@ -199,13 +216,20 @@ module _ (all set next : ℕ) (later : set < next)
             (omega (arith, later)) (λ mask after before. ap one_if (none-between mask after before)),
       )
 
+-- a set that is not within another, or comes behind one that is, is not that one
+pub other-than : (all set mask : ℕ)
+    → is_within set all ≡ true → (is_within mask all ≡ true → set < mask) → mask ≢ set
+other-than all set mask within later same = omega (arith, same, later (rw same within))
+
 -- no set within another comes behind it
 pub none-behind : (mask all : ℕ) → all + 1 ≤ mask → is_within mask all ≡ false
 none-behind mask all behind =
     test-fails (is_within mask all) (λ within. omega (arith, behind, within-below mask all within))
 
 -- so they are all among the masks up to it
+pub all-up-to : (count all : ℕ) → all < count → sets_within count all ≡ sets_within (all + 1) all
+all-up-to count all below = sum_over-skip (all + 1) (λ mask. one_if (is_within mask all)) count
+    (omega (arith, below)) (λ mask after before. ap one_if (none-behind mask all after))
+
 pub sets-up-to : (n all : ℕ) → all < 2 ^ n → sets_within (all + 1) all ≡ 2 ^ size_of (bits n all)
-sets-up-to n all below = sym (sum_over-skip (all + 1) (λ mask. one_if (is_within mask all)) (2 ^ n)
-    (omega (arith, below)) (λ mask after before. ap one_if (none-behind mask all after)))
-    ∙ all-sets-within n all
+sets-up-to n all below = sym (all-up-to (2 ^ n) all below) ∙ all-sets-within n all

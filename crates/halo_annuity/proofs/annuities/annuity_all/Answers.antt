@@ -1,6 +1,6 @@
 use Rattle.std.proofs.Common.{◌≡◌, ℕ, suc, ◌+◌, ◌-◌, ◌^◌, ◌≤◌, arith, lit<, subst}
 use Rattle.halo_annuity.specs.AtTime.{HoldAt}
-use Rattle.halo_annuity.specs.OfTask.{named_of_task}
+use Rattle.halo_compile.specs.NamedSets.{named_of_task}
 use Rattle.halo_compile.proofs.Tasks.{few-sets}
 use Rattle.halo_annuity.proofs.TaskFacts.{pass-cost}
 use Rattle.halo_annuity.proofs.Values.{held-annuity, held-modest}
@@ -56,14 +56,14 @@ returns-clause-values g c =
     subst (λ (t : ℕ). HoldAt c.args.task.now t c.loop-back.work) there c.loop-back.invariant.values
 
 pub returns-clause-totals : goal.returns-clause-totals
-returns-clause-totals g c = λ alive there.
+returns-clause-totals g c = λ alive named there are.
     let group = c.start-start.ensures.group in
     let at : c.start-start.result + (c.saturating_sub-years.result - c.loop-back.back)
     ≡ c.args.task.now.group.now.start =
     omega (arith, c.loop-back-test.false, c.start-start.ensures.value) in
     held-annuity c.args.task.now c.requires.task group c.args.task.now.group.now.start group.time c.loop-back.work
     (subst (λ (t : ℕ). HoldAt c.args.task.now t c.loop-back.work) at c.loop-back.invariant.values)
-    c.requires.annuity c.fractions-fractions.ensures.interest alive there
+    c.requires.annuity c.fractions-fractions.ensures.interest alive named there are
 
 pub returns-clause-modest : goal.returns-clause-modest
 returns-clause-modest g c =

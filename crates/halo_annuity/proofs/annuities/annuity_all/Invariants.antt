@@ -1,6 +1,6 @@
 use Rattle.std.proofs.Common.{◌+◌, ◌*◌, ◌-◌, ◌^◌, ◌≤◌}
 use Rattle.halo_annuity.specs.AtTime.{HoldAt}
-use Rattle.halo_annuity.specs.OfTask.{named_of_task}
+use Rattle.halo_compile.specs.NamedSets.{named_of_task}
 use Rattle.halo_annuity.proofs.annuities.annuity_all.Given as goal
 
 abbrev pub invariant-loop-back : goal.invariant-loop-back

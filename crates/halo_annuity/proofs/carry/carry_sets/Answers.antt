@@ -1,39 +1,71 @@
-use Rattle.std.proofs.Common.{◌≡◌, ℕ, cond, true, false, below_more, arith, ◌∙◌}
-use Rattle.halo_sums.specs.Sums.{numbers_from, sum_over}
-use Rattle.halo_life.specs.Lists.{entry, nothing}
-use Rattle.halo_sums.specs.Within.{is_within}
+use Rattle.std.proofs.Common.{◌≡◌, ◌≢◌, ℕ, arith, lit<, refl, ◌∙◌}
+use Rattle.halo_sums.proofs.Within.{within-below}
+use Rattle.halo_life.specs.Lists.{entry}
+use Rattle.halo_life.proofs.Within.{all-up-to, one-set-more, other-than, up-to-next}
 use Rattle.halo_annuity.specs.SetSteps.{CarriesBy}
-use Rattle.halo_life.proofs.Sums.{sum_over-numbers_push}
-use Rattle.halo_annuity.proofs.NamedSets.{one-cost}
 use Rattle.halo_annuity.proofs.carry.carry_sets.Goals as goal
+
+pub loop-set-init : goal.loop-set-init
+loop-set-init g c =
+    let first = c.carry_set.ensures in
+    record {
+      within = refl;
+      plus = λ k low within. let e : k ≡ 0 = omega arith in rw e first.plus;
+      minus = λ k low within. let e : k ≡ 0 = omega arith in rw e first.minus;
+      rest = λ k behind. first.others k (other-than c.args.named 0 k refl behind);
+      survivals = first.survivals;
+      cost = omega (arith, first.cost);
+    }
+
+pub carry_set-requires-in-loop-set : goal.carry_set-requires-in-loop-set
+carry_set-requires-in-loop-set g c =
+    let i = c.loop-set.invariant in
+    let next = c.next_within-set.ensures in
+    let now = i.rest c.next_within-set.result (λ within. next.later) in (
+      lit< tt,
+      (
+        omega (arith, c.requires.below, within-below c.next_within-set.result c.args.named next.within),
+        (
+          c.requires.discount,
+          (
+            rw i.survivals (c.requires.survivals c.next_within-set.result next.within),
+            rw (now.0, now.1) (c.requires.modest c.next_within-set.result next.within),
+          ),
+        ),
+      ),
+    )
 
 pub loop-set-preserved : goal.loop-set-preserved
 loop-set-preserved g c =
     let i = c.loop-set.invariant in
-    let n : ℕ = c.loop-set.set in
-    let step = c.carry_set.ensures in
-    let now = i.rest n (omega arith) in
+    let set = c.loop-set.set in
+    let next : ℕ = c.next_within-set.result in
+    let e = c.next_within-set.ensures in
     let before = c.args.work.now in
-    let after = c.carry_set.new.work in
+    let after = c.carry_set-in-loop-set.new.work in
+    let step = c.carry_set-in-loop-set.ensures in
+    let now = i.rest next (λ within. e.later) in
     record {
-      plus = below_more (λ k. is_within k c.args.named ≡ true
-          → CarriesBy c.args.discount (entry before.survivals k) (entry before.plus k) (entry after.plus k)) n
-          (λ k h. rw ((step.others k (omega (arith, h))).0) (i.plus k h)) (rw (← now.0, ← i.survivals) step.plus);
-      minus = below_more (λ k. is_within k c.args.named ≡ true
-          → CarriesBy c.args.discount (entry before.survivals k) (entry before.minus k) (entry after.minus k)) n
-          (λ k h. rw ((step.others k (omega (arith, h))).1) (i.minus k h)) (rw (← now.1, ← i.survivals) step.minus);
-      none = below_more
-          (λ k. is_within k c.args.named ≡ false → (entry after.plus k ≡ nothing) × (entry after.minus k ≡ nothing)) n
-          (λ k h. rw ((step.others k (omega (arith, h))).0, (step.others k (omega (arith, h))).1)
-          (i.none k h)) step.none;
-      rest = λ k h. (
-        (step.others k (omega (arith, h))).0
-            ∙ (i.rest k (omega arith)).0,
-        (step.others k (omega (arith, h))).1 ∙ (i.rest k (omega arith)).1,
-      );
+      within = e.within;
+      plus = up-to-next c.args.named set next e.later e.next
+          (λ k. CarriesBy c.args.discount (entry before.survivals k) (entry before.plus k) (entry after.plus k))
+          (λ k low within. let other : k ≢ next = omega (arith, low, e.later) in
+          rw ((step.others k other).0) (i.plus k low within))
+          (rw (← now.0, ← i.survivals) step.plus);
+      minus = up-to-next c.args.named set next e.later e.next
+          (λ k. CarriesBy c.args.discount (entry before.survivals k) (entry before.minus k) (entry after.minus k))
+          (λ k low within. let other : k ≢ next = omega (arith, low, e.later) in
+          rw ((step.others k other).1) (i.minus k low within))
+          (rw (← now.1, ← i.survivals) step.minus);
+      rest = λ k behind.
+          let others = step.others k (other-than c.args.named next k e.within behind) in
+          let rest = i.rest k (λ within. omega (arith, e.later, behind within)) in
+          (others.0 ∙ rest.0, others.1 ∙ rest.1);
       survivals = step.survivals ∙ i.survivals;
-      cost = one-cost c.args.steps.now c.loop-set.steps c.carry_set.new.steps 3
-          (sum_over (numbers_from 0 n) (λ mask. cond (is_within mask c.args.named) 1 0))
-          (cond (is_within n c.args.named) 1 0) _
-          i.cost step.cost (sum_over-numbers_push n (λ mask. cond (is_within mask c.args.named) 1 0));
+      cost = omega (arith, step.cost, i.cost, one-set-more c.args.named set next e.later e.next e.within);
     }
+
+pub returns-clause-cost : goal.returns-clause-cost
+returns-clause-cost g c =
+    let sets = rw c.loop-set-test.false at c.loop-set.invariant.cost in
+    omega (arith, sets, all-up-to g.row.M c.args.named c.requires.below)

@@ -1,4 +1,4 @@
-use Rattle.std.proofs.Common.{ℕ, suc, ◌<◌, ◌≤◌, arith, lit<, refl, sym, subst, ◌∙◌}
+use Rattle.std.proofs.Common.{suc, ◌≤◌, arith, lit<, refl, sym, ◌∙◌}
 use Rattle.halo_sums.specs.Masks.{bits}
 use Rattle.halo_status.specs.Pay.{pay_of}
 use Rattle.halo_model.specs.Segment.{first_time}
@@ -7,7 +7,8 @@ use Rattle.halo_compile.specs.OfTask.{basis_of_task, pay_of_task}
 use Rattle.halo_compile.proofs.Coefficients.{coefficient-sized, coefficients-of-one}
 use Rattle.halo_annuity.proofs.Passes.{none-paid, sets-paid}
 use Rattle.halo_sums.proofs.SetMasks.{length-bits}
-use Rattle.halo_compile.proofs.Tasks.{few-sets}
+use Rattle.halo_sums.proofs.Within.{within-below}
+use Rattle.halo_compile.proofs.NamedSets.{all-named, modest-within, named-within, set-below}
 use Rattle.halo_annuity.proofs.TaskFacts.{form-begun}
 use Rattle.halo_annuity.proofs.step.pay.Goals as goal
 
@@ -35,21 +36,23 @@ at-requires g c =
 pub pay_sets-requires : goal.pay_sets-requires
 pay_sets-requires g c =
     let task = c.args.task.now in
-    let sets = c.requires.task.sets in
+    let named = all-named c.lives.result (pay_of task.pay.now).body c.lives.ensures in
+    let below = set-below task c.requires.task c.lives.result named in
     let few = c.start-start.ensures.group.few in (
       lit< tt,
       (
         lit< tt,
         (
-          few-sets g.row.N g.row.M sets few,
+          below,
           (
             c.paid_at-paid.ensures.small,
             (
-              λ mask h. rw (coefficients-by-mask (pay_of task.pay.now) g.row.N c.args.t c.at.result.now
+              λ mask within. rw (coefficients-by-mask (pay_of task.pay.now) g.row.N c.args.t c.at.result.now
                   (c.at.ensures (pay_of task.pay.now) g.row.N task.horizon c.requires.task.form) mask
-                  (subst (λ (m : ℕ). mask < m) sets h)) (coefficient-sized
-                  (pay_of task.pay.now) c.args.t (bits g.row.N mask) (omega (arith, few, length-bits g.row.N mask))),
-              c.requires.modest,
+                  (omega (arith, c.requires.task.sets, below, within-below mask c.lives.result within)))
+                  (coefficient-sized (pay_of task.pay.now) c.args.t (bits g.row.N mask)
+                  (omega (arith, few, length-bits g.row.N mask))),
+              modest-within task c.requires.task c.lives.result named c.args.work.now c.requires.modest,
             ),
           ),
         ),
@@ -60,13 +63,13 @@ pub returns : goal.returns
 returns g c = record {
   paid = λ ties years held.
       let task = c.args.task.now in
-      let sets = c.requires.task.sets in
+      let within = named-within c.lives.result (pay_of task.pay.now).body c.lives.ensures in
       sets-paid (basis_of_task task ties) (pay_of_task task) c.args.start g.row.N c.args.t years
       (suc years) c.paid_at-paid.result c.at.result.now c.args.work.now c.pay_sets.new.work
       refl c.paid_at-paid.ensures.value
       (coefficients-of-one (pay_of task.pay.now) g.row.N c.args.t c.at.result.now
       (c.at.ensures (pay_of task.pay.now) g.row.N task.horizon c.requires.task.form))
       held
-      (λ mask h. c.pay_sets.ensures.plus mask (subst (λ (m : ℕ). mask < m) (sym sets) h))
-      (λ mask h. c.pay_sets.ensures.minus mask (subst (λ (m : ℕ). mask < m) (sym sets) h));
+      (λ mask below each. c.pay_sets.ensures.plus mask (within mask each))
+      (λ mask below each. c.pay_sets.ensures.minus mask (within mask each));
 }

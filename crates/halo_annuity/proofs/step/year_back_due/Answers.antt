@@ -1,11 +1,12 @@
-use Rattle.std.proofs.Common.{◌≡◌, ℕ, suc, ◌-◌, ◌^◌, ◌∙◌, arith, lit<, refl, sym, subst}
+use Rattle.std.proofs.Common.{◌≡◌, ℕ, suc, ◌-◌, ◌∙◌, arith, lit<, refl, sym, subst}
 use Rattle.halo_contract.specs.declared.ties.Ties.TheVariants.{Declared}
+use Rattle.halo_status.specs.Pay.{pay_of}
 use Rattle.halo_compile.specs.OfTask.{basis_of_task, pay_of_task}
 use Rattle.halo_annuity.specs.OfTask.{last_of_task}
 use Rattle.halo_annuity.specs.Worth.{HoldValues}
 use Rattle.halo_annuity.proofs.AtTimes.{due-carried, due-last}
 use Rattle.halo_annuity.proofs.Modest.{carried-modest, values-modest}
-use Rattle.halo_annuity.proofs.TaskFacts.{modest-same}
+use Rattle.halo_annuity.proofs.TaskFacts.{modest-sets}
 use Rattle.halo_annuity.proofs.step.year_back_due.Goals as goal
 
 pub carry_back-requires : goal.carry_back-requires
@@ -22,7 +23,7 @@ carry_back-requires g c =
             λ e. absurd (cc (sym c.requires.due ∙ e)),
             (
               omega (arith, c.requires.time, in_time),
-              modest-same (2 ^ g.row.N) g.row.M c.args.work.now c.args.work.now c.requires.task.sets refl refl
+              modest-sets g.row.M g.row.N (pay_of task.pay.now).body c.args.work.now c.requires.task.sets
                   (values-modest (basis_of_task task Declared) (pay_of_task task)
                   refl c.requires.task.valid.vary (suc c.args.t) g.row.N c.start-start.ensures.group.few
                   c.args.work.now (suc c.args.t) (suc (last_of_task task) - suc c.args.t)
@@ -45,7 +46,7 @@ pay-requires g c =
           c.requires.task,
           (
             omega (arith, c.requires.time, last),
-            modest-same (2 ^ g.row.N) g.row.M c.carry_back.new.work c.carry_back.new.work c.requires.task.sets refl refl
+            modest-sets g.row.M g.row.N (pay_of task.pay.now).body c.carry_back.new.work c.requires.task.sets
                 (carried-modest (basis_of_task task Declared) (pay_of_task task) refl c.requires.task.valid.vary
                 (suc c.args.t) g.row.N c.start-start.ensures.group.few c.carry_back.new.work c.args.t
                 (suc (last_of_task task) - suc c.args.t)

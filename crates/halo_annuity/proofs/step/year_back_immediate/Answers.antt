@@ -1,12 +1,13 @@
-use Rattle.std.proofs.Common.{◌≡◌, ℕ, suc, ◌+◌, ◌-◌, ◌^◌, ◌∙◌, arith, lit<, refl, sym, subst}
+use Rattle.std.proofs.Common.{◌≡◌, ℕ, suc, ◌+◌, ◌-◌, ◌∙◌, arith, lit<, refl, sym, subst}
 use Rattle.halo_contract.specs.declared.ties.Ties.TheVariants.{Declared}
+use Rattle.halo_status.specs.Pay.{pay_of}
 use Rattle.halo_compile.specs.OfTask.{basis_of_task, pay_of_task}
 use Rattle.halo_annuity.specs.OfTask.{last_of_task}
 use Rattle.halo_annuity.specs.Worth.{HoldCarried, HoldValues}
 use Rattle.halo_annuity.proofs.AtTimes.{immediate-carried, immediate-last, none-at-once}
 use Rattle.halo_annuity.proofs.Modest.{values-modest}
 use Rattle.halo_annuity.proofs.Passes.{none-paid}
-use Rattle.halo_annuity.proofs.TaskFacts.{modest-same}
+use Rattle.halo_annuity.proofs.TaskFacts.{modest-sets}
 use Rattle.halo_annuity.proofs.step.year_back_immediate.Goals as goal
 
 pub pay-requires : goal.pay-requires
@@ -21,7 +22,7 @@ pay-requires g c =
           c.requires.task,
           (
             omega (arith, c.requires.time, last),
-            modest-same (2 ^ g.row.N) g.row.M c.args.work.now c.args.work.now c.requires.task.sets refl refl
+            modest-sets g.row.M g.row.N (pay_of task.pay.now).body c.args.work.now c.requires.task.sets
                 (values-modest (basis_of_task task Declared) (pay_of_task task) refl c.requires.task.valid.vary
                 (suc c.args.t) g.row.N c.start-start.ensures.group.few c.args.work.now
                 (suc c.args.t) (suc (last_of_task task) - suc c.args.t)
@@ -53,7 +54,7 @@ carry_back-requires g c =
             λ e. absurd (cc (sym c.requires.immediate ∙ e)),
             (
               omega (arith, c.requires.time, in_time),
-              modest-same (2 ^ g.row.N) g.row.M c.pay.new.work c.pay.new.work c.requires.task.sets refl refl
+              modest-sets g.row.M g.row.N (pay_of task.pay.now).body c.pay.new.work c.requires.task.sets
                   (values-modest b (pay_of_task task) refl c.requires.task.valid.vary
                   c.args.t g.row.N c.start-start.ensures.group.few c.pay.new.work (c.args.t + 1) (suc years)
                   (omega (arith, c.requires.time, in_time, last)) paid),

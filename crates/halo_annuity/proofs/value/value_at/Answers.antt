@@ -6,6 +6,9 @@ use Rattle.halo_model.specs.Counts.{measures_of, most_worth}
 use Rattle.halo_contract.specs.declared.ties.Ties.TheVariants.{Declared}
 use Rattle.halo_model.specs.Value.{denominator, numerator}
 use Rattle.halo_life.specs.Total.{total_of}
+use Rattle.std.specs.Prelude.{bit_and}
+use Rattle.halo_status.specs.Pay.{pay_of}
+use Rattle.halo_compile.proofs.NamedSets.{modest-within, named-part, part-is-named, set-below}
 use Rattle.halo_compile.specs.OfTask.{basis_of_task, pay_of_task}
 use Rattle.halo_compile.proofs.Clamped.{meets-above, meets-below}
 use Rattle.halo_annuity.proofs.TaskBounds.{most-of-task, some-denominator, value-above, value-below}
@@ -15,11 +18,20 @@ use Rattle.halo_annuity.proofs.value.value_at.Goals as goal
 
 pub total-total-requires : goal.total-total-requires
 total-total-requires g c =
-    let r = c.requires in (
+    let r = c.requires in
+    let task = c.args.task.now in
+    let body = (pay_of task.pay.now).body in
+    let set : ℕ = bit_and c.args.alive c.lives.result in
+    let named = part-is-named body c.args.alive set (named-part c.lives.result body c.lives.ensures c.args.alive) in
+    let group = c.start-start.ensures.group in (
       lit< tt,
       (
-        few-sets g.row.N g.row.M r.task.sets c.start-start.ensures.group.few,
-        held-modest c.args.task.now r.task c.start-start.ensures.group c.args.t r.time c.args.work.now r.values,
+        few-sets g.row.N g.row.M r.task.sets group.few,
+        (
+          set-below task r.task set named,
+          modest-within task r.task set named c.args.work.now
+              (held-modest task r.task group c.args.t r.time c.args.work.now r.values),
+        ),
       ),
     )
 
@@ -30,10 +42,13 @@ between-requires-clause-meets_most g c =
     let group = c.start-start.ensures.group in
     let interest = c.fractions-fractions.ensures.interest in
     let b = basis_of_task task Declared in
+    let part : ℕ = bit_and c.args.alive c.lives.result in
+    let are = named-part c.lives.result (pay_of task.pay.now).body c.lives.ensures c.args.alive in
     let held =
-    same-annuity task c.args.t c.args.alive c.total-total.result (total_of c.args.work.now g.row.M c.args.alive)
+    same-annuity task c.args.t c.args.alive c.total-total.result (total_of c.args.work.now g.row.M part)
     c.total-total.ensures.lo c.total-total.ensures.hi
-    (held-annuity task r.task group c.args.t r.time c.args.work.now r.values r.annuity interest c.args.alive r.alive) in
+    (held-annuity task r.task group c.args.t r.time c.args.work.now r.values r.annuity interest
+    c.args.alive part r.alive are) in
     meets-above c.total-total.result (numerator b (pay_of_task task) c.args.t (has_bit c.args.alive))
     (denominator b c.args.t (has_bit c.args.alive)) c.most_worth.result
     (some-denominator task group interest c.args.t c.args.alive r.alive) (held.encloses Declared)
@@ -47,10 +62,13 @@ between-requires-clause-meets_least g c =
     let group = c.start-start.ensures.group in
     let interest = c.fractions-fractions.ensures.interest in
     let b = basis_of_task task Declared in
+    let part : ℕ = bit_and c.args.alive c.lives.result in
+    let are = named-part c.lives.result (pay_of task.pay.now).body c.lives.ensures c.args.alive in
     let held =
-    same-annuity task c.args.t c.args.alive c.total-total.result (total_of c.args.work.now g.row.M c.args.alive)
+    same-annuity task c.args.t c.args.alive c.total-total.result (total_of c.args.work.now g.row.M part)
     c.total-total.ensures.lo c.total-total.ensures.hi
-    (held-annuity task r.task group c.args.t r.time c.args.work.now r.values r.annuity interest c.args.alive r.alive) in
+    (held-annuity task r.task group c.args.t r.time c.args.work.now r.values r.annuity interest
+    c.args.alive part r.alive are) in
     meets-below c.total-total.result (numerator b (pay_of_task task) c.args.t (has_bit c.args.alive))
     (denominator b c.args.t (has_bit c.args.alive)) c.least_worth.result
     (some-denominator task group interest c.args.t c.args.alive r.alive) (held.encloses Declared)
@@ -62,11 +80,13 @@ returns-clause-encloses g c =
     let r = c.requires in
     let task = c.args.task.now in
     let group = c.start-start.ensures.group in
+    let part : ℕ = bit_and c.args.alive c.lives.result in
+    let are = named-part c.lives.result (pay_of task.pay.now).body c.lives.ensures c.args.alive in
     let held =
-    same-annuity task c.args.t c.args.alive c.total-total.result (total_of c.args.work.now g.row.M c.args.alive)
+    same-annuity task c.args.t c.args.alive c.total-total.result (total_of c.args.work.now g.row.M part)
     c.total-total.ensures.lo c.total-total.ensures.hi
     (held-annuity task r.task group c.args.t r.time c.args.work.now r.values r.annuity
-    c.fractions-fractions.ensures.interest c.args.alive r.alive) in
+    c.fractions-fractions.ensures.interest c.args.alive part r.alive are) in
     record {
       encloses = λ ties.
           c.between.ensures.encloses

@@ -42,8 +42,8 @@ leaving_of_set-chance-requires g c =
               omega (arith, c.requires.named, within-below c.next_within-set.result c.args.named next.within),
               (
                 c.year_of_lives-year.ensures.years,
-                filled-before IsChance c.args.named set c.next_within-set.result c.loop-set.into.leavings
-                    next.next next.within c.loop-set.invariant.sets,
+                filled-before IsChance c.args.named set c.next_within-set.result next.later next.next
+                    c.loop-set.into.leavings next.within c.loop-set.invariant.sets,
               ),
             ),
           ),
@@ -70,8 +70,9 @@ loop-set-preserved g c =
     (within-size n c.next_within-set.result c.args.named below next.within) in
     record {
       within = next.within;
-      sets = filled-next IsChance c.args.named set c.next_within-set.result c.loop-set.into.leavings
-          c.put_leaving-in-loop-set.new.self.leavings c.leaving_of_set-chance.result next.next
+      sets = filled-next IsChance c.args.named set c.next_within-set.result next.later next.next
+          c.loop-set.into.leavings
+          c.put_leaving-in-loop-set.new.self.leavings c.leaving_of_set-chance.result
           i.sets c.leaving_of_set-chance.ensures.leaving put.written put.others;
       survivals = put.survivals ∙ i.survivals;
       plus = put.plus ∙ i.plus;

@@ -39,8 +39,8 @@ survival_of_set-chance-requires g c =
               omega (arith, c.requires.named, within-below c.next_within-set.result c.args.named next.within),
               (
                 c.year_of_lives-year.ensures.years,
-                filled-before IsChance c.args.named set c.next_within-set.result c.loop-set.into.survivals
-                    next.next next.within c.loop-set.invariant.sets,
+                filled-before IsChance c.args.named set c.next_within-set.result next.later next.next
+                    c.loop-set.into.survivals next.within c.loop-set.invariant.sets,
               ),
             ),
           ),
@@ -57,8 +57,9 @@ loop-set-preserved g c =
     let IsChance = EnclosesSurvival g.row.N (numbers_of c.args.self.now c.year_of_lives-year.result) in
     record {
       within = next.within;
-      sets = filled-next IsChance c.args.named set c.next_within-set.result c.loop-set.into.survivals
-          c.put_survival-in-loop-set.new.self.survivals c.survival_of_set-chance.result next.next
+      sets = filled-next IsChance c.args.named set c.next_within-set.result next.later next.next
+          c.loop-set.into.survivals
+          c.put_survival-in-loop-set.new.self.survivals c.survival_of_set-chance.result
           i.sets c.survival_of_set-chance.ensures.survival put.written put.others;
       leavings = put.leavings ∙ i.leavings;
       plus = put.plus ∙ i.plus;
@@ -86,4 +87,5 @@ returns-clause-chances g c = λ mask below within.
 pub returns-clause-cost : goal.returns-clause-cost
 returns-clause-cost g c =
     let sets = sets-up-to g.row.N c.args.named (omega (arith, c.requires.named, c.requires.sets)) in
-    rw c.loop-set-test.false at c.loop-set.invariant.cost ∙ ap (λ k. c.args.steps.now + k) sets
+    let cost = rw c.loop-set-test.false at c.loop-set.invariant.cost in
+    cost ∙ ap (λ k. c.args.steps.now + k) sets
