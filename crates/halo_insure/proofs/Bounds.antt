@@ -23,6 +23,8 @@ use Rattle.halo_life.specs.Total.{total_of}
 use Rattle.halo_compile.proofs.Tasks.{interest-there, survivors-there}
 use Rattle.halo_compile.specs.ValidTask.{IsTask}
 use Rattle.halo_compile.specs.declared.task.Task.{Task}
+use Rattle.halo_status.specs.Pay.{pay_of}
+use Rattle.halo_compile.specs.NamedSets.{IsNamedPart}
 use Rattle.halo_compile.specs.OfTask.{HaveSurvivorsAt, pay_of_task}
 use Rattle.halo_insure.specs.OfTask.{HoldDuesAt, insured_basis}
 use Rattle.halo_insure.specs.Total.{EnclosesInsurance, HoldDues}
@@ -54,17 +56,17 @@ bounded b rule end pay is one T S =
 module _ {n m : ℕ}
     (task : Task n m) (is : IsTask task) (group : IsGroup n task.group.now) (kind : task.pay.now.kind ≡ Insurance) where
   -- the total of what is due for all sets encloses the value
-  pub total-encloses : (t alive : ℕ) (lists : Lists) (i : Ends)
-      → HoldDuesAt task t lists → i.lo ≡ (total_of lists m alive).lo
-      → i.hi ≡ (total_of lists m alive).hi → EnclosesInsurance (insured_basis task) (pay_of_task task) t alive i
-  total-encloses t alive lists i held lo hi =
+  pub total-encloses : (t alive named : ℕ) → IsNamedPart (pay_of task.pay.now).body alive named
+      → (lists : Lists) (i : Ends) → HoldDuesAt task t lists → i.lo ≡ (total_of lists m named).lo
+      → i.hi ≡ (total_of lists m named).hi → EnclosesInsurance (insured_basis task) (pay_of_task task) t alive i
+  total-encloses t alive named are lists i held lo hi =
       let b = insured_basis task in
       let count = lives-of-task task group in
       let all = sets-enclose-value b (are-lives task group) (end-by task group)
       (pay_of_task task) (unit-valid task is kind) refl (rw (← is.horizon_is) is.horizon_in) t lists
-      (subst (λ (k : ℕ). HoldDues b (pay_of_task task) all_events k t lists) (sym count) held) alive in
-      same-insurance b (pay_of_task task) t alive i (total_of lists m alive) lo hi
-      (subst (λ (k : ℕ). EnclosesInsurance b (pay_of_task task) t alive (total_of lists k alive))
+      (subst (λ (k : ℕ). HoldDues b (pay_of_task task) all_events k t lists) (sym count) held) alive named are in
+      same-insurance b (pay_of_task task) t alive i (total_of lists m named) lo hi
+      (subst (λ (k : ℕ). EnclosesInsurance b (pay_of_task task) t alive (total_of lists k named))
       (ap (λ (k : ℕ). 2 ^ k) count ∙ sym is.sets) all)
 
   -- and the value is bounded

@@ -1,7 +1,6 @@
--- A year back for all sets of lives: what is due from the next year on, and what is due in the year.
-use Rattle.std.proofs.Common.{◌≡◌, ℕ, zero, suc, ◌+◌, ◌*◌, ◌-◌, ◌^◌, ◌<◌, ◌≤◌, arith, refl, ap, sym, ◌∙◌, List, length, Bool, true, false, cond, ◌&&◌, nat_le, nat_lt, ℤ, pos, ◌-ℤ◌, mul_comm, subst}
+-- A year back for the sets of named lives: what is due from the next year on, and what is due in the year.
+use Rattle.std.proofs.Common.{◌≡◌, ℕ, suc, ◌+◌, ◌*◌, ◌-◌, ◌^◌, ◌<◌, ◌≤◌, arith, refl, ap, sym, ◌∙◌, List, length, Bool, true, cond, nat_le, ℤ, pos, mul_comm, subst}
 use Rattle.std.proofs.Math.Path.{fun_ext}
-use Rattle.std.proofs.lemmas.Int.{ints}
 use Rattle.halo_sums.specs.Masks.{bits, has_bit}
 use Rattle.halo_sums.specs.Sets.{in_set, size_of}
 use Rattle.halo_sums.proofs.SetMasks.{length-bits}
@@ -20,13 +19,14 @@ use Rattle.halo_model.specs.Life.{AreLives}
 use Rattle.halo_model.specs.Order.{orders_taken}
 use Rattle.halo_model.specs.Outcome.{joint_survivors}
 use Rattle.halo_model.specs.OrderLaws.{year_numbers}
-use Rattle.halo_model.specs.Payment.{factor, payment}
+use Rattle.halo_model.specs.Payment.{factor}
 use Rattle.halo_model.specs.SetValue.{SomeEvents}
 use Rattle.halo_poly.specs.Poly.{coefficient_at}
 use Rattle.halo_life.specs.Lists.{Lists, entry, nothing}
 use Rattle.halo_sums.specs.Within.{is_within}
 use Rattle.halo_life.specs.YearOfSets.{EncloseLeavings, EncloseSurvivals, leavings_of_set}
-use Rattle.halo_compile.proofs.Within.{has-other, within-is}
+use Rattle.halo_compile.specs.NamedSets.{AreNamed}
+use Rattle.halo_compile.proofs.NamedSets.{named-within}
 use Rattle.halo_insure.specs.declared.due.Due.{Due}
 use Rattle.halo_insure.specs.declared.sets.Year.{Year}
 use Rattle.halo_insure.specs.Dues.{coefficient_before, due_of, ends_count}
@@ -37,7 +37,6 @@ use Rattle.halo_insure.specs.YearSets.{SetGoesBack, SetsGoBack, next_coefficient
 use Rattle.halo_insure.proofs.DueOfSet.{due-of-form}
 use Rattle.halo_insure.proofs.Nobody.{end-with-nobody}
 use Rattle.halo_insure.proofs.OneSet.{nothing-due, year-more}
-use Rattle.halo_insure.proofs.Silent.{silent-form}
 
 -- a chance told in more parts
 chance-scaled : (n d w k : ℕ) (i : Ends) → EnclosesChance n d w i → EnclosesChance (k * n) (k * d) w i
@@ -48,28 +47,7 @@ chance-scaled n d w k i c = record {
   within = c.within;
 }
 
--- where a form has no coefficient nothing is due
-module _ (part : ℤ → ℕ) (none : part (pos 0) ≡ 0)
-    (pay : PlainPay) (events : SomeEvents) (years : ℕ) (s : List Bool) (silent : (t : ℕ) → form pay t s ≡ pos 0) where
-  silent-year : (k : ℕ) → (due_of part pay events years s k).on_leaving + (due_of part pay events years s k).at_end ≡ 0
-  silent-year k = rw (silent k, lost (nat_lt (suc k) years), none)
-      (both (nat_le pay.defer k) (nat_le pay.defer k && ends_count pay events (suc k)) (payment pay (k - pay.defer)))
-    where
-      lost : (b : Bool) → pos 0 -ℤ cond b (form pay (suc k) s) (pos 0) ≡ pos 0
-      lost true = rw (silent (suc k)) (omega (arith, ints))
-      lost false = omega (arith, ints)
-
-      both : (b c : Bool) (p : ℕ) → cond b (p * 0) 0 + cond c (p * 0) 0 ≡ 0
-      both true true p = omega arith
-      both true false p = omega arith
-      both false true p = omega arith
-      both false false p = omega arith
-
-  pub silent-most : (more k : ℕ) → most_due (due_of part pay events years s) k more ≡ 0
-  silent-most zero k = refl
-  silent-most (suc more) k = omega (arith, silent-year k, silent-most more (suc k))
-
-module _ {m : ℕ} (n : ℕ) (sets : m ≡ 2 ^ n) (b : Basis)
+module _ {m : ℕ} (n : ℕ) (b : Basis)
     (rule : AreLives b.lives) (pay : PlainPay) (one : pay.amount ≡ 1) (events : SomeEvents) (count : length b.lives ≡ n)
     (k : ℕ) (in_time : horizon b.lives pay.body ≤ b.last_time) (now : k < horizon b.lives pay.body)
     (year : Year m)
@@ -124,47 +102,28 @@ module _ {m : ℕ} (n : ℕ) (sets : m ≡ 2 ^ n) (b : Basis)
       (omega (arith, now, in_time)) (omega arith) two
       (set-leaves mask below inside) (set-survives mask below inside) discounts narrow (rw due at goes) held)
 
-  -- a set with a life that is not named
-  set-silent : (part : ℤ → ℕ) → part (pos 0) ≡ 0 → (mask : ℕ) → mask < 2 ^ n → is_within mask named ≡ false
-      → (result : Ends) → result ≡ nothing → EnclosesSet part b pay events (bits n mask) k result
-  set-silent part none mask below outside result empty =
-      let s : List Bool = bits n mask in
-      let other = has-other s (has_bit named) (sym (within-is n mask named below) ∙ outside) in
-      let silent = λ (t : ℕ). silent-form pay t other.life s other.of_it (sym (names other.life) ∙ other.other) in
-      nothing-due b (set_leavings b pay events s) (set_survivors b s) (due_of part pay events H s) (4 * size_of s) k
-      (H - k) result (silent-most part none pay events H s silent (H - k) k) (rw empty refl) (rw empty refl)
-
   pub dues-carried : HoldDues b pay events n (suc k) before → HoldDues b pay events n k after
-  dues-carried held mask below = by-case (is_within mask named) refl
-    where
-      inside : (mask : ℕ) → mask < 2 ^ n → mask < m
-      inside mask h = omega (arith, sets, h)
-
-      by-case : (is : Bool) → is_within mask named ≡ is → EnclosesSet above_zero b pay events (bits n mask) k
-          (entry after.plus mask) × EnclosesSet below_zero b pay events (bits n mask) k (entry after.minus mask)
-      by-case true e = (
-        set-carried above_zero mask below e _ _ (back.plus mask (inside mask below) e) (held mask below).0,
-        set-carried below_zero mask below e _ _ (back.minus mask (inside mask below) e) (held mask below).1,
-      )
-      by-case false e = (
-        set-silent above_zero refl mask below e _ ((back.none mask (inside mask below) e).0),
-        set-silent below_zero refl mask below e _ ((back.none mask (inside mask below) e).1),
+  dues-carried held mask below each =
+      let within = named-within named pay.body names mask each in
+      let later = held mask below each in (
+        set-carried above_zero mask below within _ _ (back.plus mask within) later.0,
+        set-carried below_zero mask below within _ _ (back.minus mask within) later.1,
       )
 
 -- at the horizon nothing is due any more
 pub none-held : (b : Basis) (pay : PlainPay) (events : SomeEvents) (n t : ℕ) (lists : Lists)
-    → horizon b.lives pay.body ≤ t → ((mask : ℕ) → mask < 2 ^ n → entry lists.plus mask ≡ nothing)
-    → ((mask : ℕ) → mask < 2 ^ n → entry lists.minus mask ≡ nothing) → HoldDues b pay events n t lists
-none-held b pay events n t lists past plus minus mask below =
+    → horizon b.lives pay.body ≤ t
+    → ((mask : ℕ) → mask < 2 ^ n → AreNamed pay.body mask
+    → (entry lists.plus mask ≡ nothing) × (entry lists.minus mask ≡ nothing)) → HoldDues b pay events n t lists
+none-held b pay events n t lists past empty mask below named =
     let years : horizon b.lives pay.body - t ≡ 0 = omega (arith, past) in
-    let none : (due : ℕ → Due) → most_due due t (horizon b.lives pay.body - t) ≡ 0 = λ due. rw years refl in (
-      nothing-due b _ _ _ _ t _
-          (entry lists.plus mask) (none _) (rw (plus mask below) refl) (rw (plus mask below) refl),
-      nothing-due b _ _ _ _ t _
-          (entry lists.minus mask) (none _) (rw (minus mask below) refl) (rw (minus mask below) refl),
+    let none : (due : ℕ → Due) → most_due due t (horizon b.lives pay.body - t) ≡ 0 = λ due. rw years refl in
+    let is = empty mask below named in (
+      nothing-due b _ _ _ _ t _ (entry lists.plus mask) (none _) (rw is.0 refl) (rw is.0 refl),
+      nothing-due b _ _ _ _ t _ (entry lists.minus mask) (none _) (rw is.1 refl) (rw is.1 refl),
     )
 
 -- lists with the same values hold the same
 pub held-same : (b : Basis) (pay : PlainPay) (events : SomeEvents) (n t : ℕ) (lists others : Lists) → others.plus
     ≡ lists.plus → others.minus ≡ lists.minus → HoldDues b pay events n t lists → HoldDues b pay events n t others
-held-same b pay events n t lists others plus minus held mask below = rw (plus, minus) (held mask below)
+held-same b pay events n t lists others plus minus held mask below named = rw (plus, minus) (held mask below named)

@@ -48,7 +48,7 @@ module _ (b : Basis) (leaving alive : ℕ → ℕ) (ended : (k : ℕ) → EndWit
 
 -- where nothing is due, exactly nothing is what is due
 module _ (b : Basis) (leaving alive : ℕ → ℕ) (due : ℕ → Due) where
-  no-worth : (years k : ℕ) → most_due due k years ≡ 0 → worth_of_dues b leaving alive due k years ≡ 0
+  pub no-worth : (years k : ℕ) → most_due due k years ≡ 0 → worth_of_dues b leaving alive due k years ≡ 0
   no-worth zero k none = refl
   no-worth (suc years) k none =
       let now : (due k).on_leaving ≡ 0 = omega (arith, none) in

@@ -1,5 +1,5 @@
--- A set with a life that the body does not name has the coefficient 0.
-use Rattle.std.proofs.Common.{◌≡◌, ◌⊎◌, ℕ, zero, suc, ◌≤◌, arith, refl, ap, sym, ◌∙◌, List, [], ◌∷◌, length, set, get_or-set_other, Bool, true, false, cond, Option, Some, None, ℤ, pos, ◌-ℤ◌, inl, inr, ⊎_elim}
+-- A set with a life that the body does not name has the coefficient 0, and nothing is due for it.
+use Rattle.std.proofs.Common.{◌≡◌, ◌⊎◌, ℕ, zero, suc, ◌+◌, ◌*◌, ◌-◌, ◌≤◌, ◌&&◌, nat_le, nat_lt, arith, refl, ap, sym, ◌∙◌, List, [], ◌∷◌, length, set, get_or-set_other, Bool, true, false, cond, Option, Some, None, ℤ, pos, ◌-ℤ◌, inl, inr, ⊎_elim}
 use Rattle.std.proofs.Math.Path.{fun_ext}
 use Rattle.std.proofs.lemmas.Int.{ints}
 use Rattle.halo_sums.specs.Sums.{indicator}
@@ -14,7 +14,11 @@ use Rattle.halo_model.specs.Coefficient.{existence, exists_by_mark, form, waits_
 use Rattle.halo_model.specs.Payment.{members_of}
 use Rattle.halo_model.specs.Counts.{lives_named}
 use Rattle.halo_status.proofs.Agreement.{agree, each-agree}
+use Rattle.halo_model.specs.Payment.{payment}
+use Rattle.halo_model.specs.SetValue.{SomeEvents}
 use Rattle.halo_compile.proofs.Named.{count-next, count_named}
+use Rattle.halo_insure.specs.Dues.{due_of, ends_count}
+use Rattle.halo_insure.specs.OneSet.{most_due}
 
 difference-none : (y z : ℤ) → y ≡ z → y -ℤ z ≡ pos 0
 difference-none y z e = rw e (omega (arith, ints))
@@ -93,3 +97,24 @@ few-or-none pay t n s len = ⊎_elim
     (λ few. inl (rw len at few))
     (λ found. inr (silent-form pay t found.0 s found.1 found.2))
     (named-or-not (λ i. names_life i pay.body) s)
+
+-- where a form has no coefficient nothing is due
+module _ (part : ℤ → ℕ) (none : part (pos 0) ≡ 0)
+    (pay : PlainPay) (events : SomeEvents) (years : ℕ) (s : List Bool) (silent : (t : ℕ) → form pay t s ≡ pos 0) where
+  silent-year : (k : ℕ) → (due_of part pay events years s k).on_leaving + (due_of part pay events years s k).at_end ≡ 0
+  silent-year k = rw (silent k, lost (nat_lt (suc k) years), none)
+      (both (nat_le pay.defer k) (nat_le pay.defer k && ends_count pay events (suc k)) (payment pay (k - pay.defer)))
+    where
+      lost : (b : Bool) → pos 0 -ℤ cond b (form pay (suc k) s) (pos 0) ≡ pos 0
+      lost true = rw (silent (suc k)) (omega (arith, ints))
+      lost false = omega (arith, ints)
+
+      both : (b c : Bool) (p : ℕ) → cond b (p * 0) 0 + cond c (p * 0) 0 ≡ 0
+      both true true p = omega arith
+      both true false p = omega arith
+      both false true p = omega arith
+      both false false p = omega arith
+
+  pub silent-most : (more k : ℕ) → most_due (due_of part pay events years s) k more ≡ 0
+  silent-most zero k = refl
+  silent-most (suc more) k = omega (arith, silent-year k, silent-most more (suc k))

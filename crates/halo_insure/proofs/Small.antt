@@ -18,7 +18,8 @@ use Rattle.halo_model.specs.Horizon.{horizon}
 use Rattle.halo_model.specs.Payment.{factor, payment}
 use Rattle.halo_model.specs.SetValue.{SomeEvents}
 use Rattle.halo_life.specs.Lists.{Lists}
-use Rattle.halo_life.specs.Total.{AreModest}
+use Rattle.halo_life.specs.Total.{AreModestAt}
+use Rattle.halo_compile.specs.NamedSets.{AreNamed}
 use Rattle.halo_compile.proofs.Coefficients.{above-sized, below-sized, coefficient-sized}
 use Rattle.halo_insure.specs.Dues.{coefficient_before, due_of, ends_count}
 use Rattle.halo_insure.specs.OneSet.{most_due}
@@ -81,12 +82,13 @@ small-within i most years few h from bound =
 
 pub dues-modest : (b : Basis) (pay : PlainPay)
     → pay.amount ≡ 1 → HasValidVary pay.vary → horizon b.lives pay.body ≤ 200 → (events : SomeEvents) (n : ℕ)
-    → n ≤ 12 → (t : ℕ) (lists : Lists) → HoldDues b pay events n t lists → AreModest (2 ^ n) lists
-dues-modest b pay one varies in_time events n few t lists held mask below =
+    → n ≤ 12 → (t : ℕ) (lists : Lists) → HoldDues b pay events n t lists
+    → (mask : ℕ) → mask < 2 ^ n → AreNamed pay.body mask → AreModestAt mask lists
+dues-modest b pay one varies in_time events n few t lists held mask below named =
     let H : ℕ = horizon b.lives pay.body in
     let s : List Bool = bits n mask in
     let short : length s ≤ 12 = omega (arith, few, length-bits n mask) in
-    let v = held mask below in (
+    let v = held mask below named in (
       small-within _ _ (H - t) (omega (arith, in_time)) (small above_zero above-sized s short) v.0.from v.0.bound,
       small-within _ _ (H - t) (omega (arith, in_time)) (small below_zero below-sized s short) v.1.from v.1.bound,
     )

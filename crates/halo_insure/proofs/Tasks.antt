@@ -1,11 +1,7 @@
 -- What a valid task of an insurance says of its lives and its pay.
 use Rattle.std.proofs.Common.{◌≡◌, ℕ, zero, suc, ◌+◌, ◌-◌, ◌^◌, ◌<◌, ◌≤◌, arith, refl, ap, ◌∙◌, List, [], ◌∷◌, length, get_or, Bool, true, false, cond, nat_lt, ℤ, pos, ⊎_elim}
-use Rattle.std.proofs.Math.Nat.{pow-le-pow_right}
-use Rattle.std.proofs.lemmas.Nat.{mul-le}
 use Rattle.std.proofs.lemmas.List.Elements.{All-get_or}
 use Rattle.halo_sums.specs.Masks.{bits}
-use Rattle.halo_sums.specs.Sets.{size_of}
-use Rattle.halo_sums.proofs.SetMasks.{length-bits}
 use Rattle.std.proofs.lemmas.Bool.{cases_lt}
 use Rattle.std.proofs.lemmas.Bool.Decides.{nat_tests}
 use Rattle.std.proofs.lemmas.Int.{ints}
@@ -22,15 +18,12 @@ use Rattle.halo_status.specs.Pay.{PlainPay, pay_of}
 use Rattle.halo_status.specs.declared.pay.Kind.TheVariants.{Insurance}
 use Rattle.halo_model.specs.Chance.{IsValidInsurance}
 use Rattle.halo_model.specs.Coefficient.{form}
-use Rattle.halo_contract.specs.declared.ties.Ties.{Ties}
-use Rattle.halo_contract.specs.declared.ties.Ties.TheVariants.{Even, Declared}
 use Rattle.halo_poly.specs.Poly.{coefficient_at}
 use Rattle.halo_model.specs.FromTables.{lives_of}
 use Rattle.halo_model.specs.Life.{AreLives}
 use Rattle.halo_life.specs.PlainGroup.{IsGroup}
-use Rattle.halo_life.specs.YearOfSets.{products_of_leavings}
 use Rattle.halo_compile.specs.Form.{HasTime, IsPolyOf}
-use Rattle.halo_compile.proofs.Coefficients.{coefficients-of-one, size-within}
+use Rattle.halo_compile.proofs.Coefficients.{coefficients-of-one}
 use Rattle.halo_compile.proofs.Tasks.{count-lives, group-lives}
 use Rattle.halo_compile.proofs.Times.{time-has-segment}
 use Rattle.halo_compile.specs.declared.task.Task.{Task}
@@ -73,14 +66,6 @@ pub has-form : {n m : ℕ} (task : Task n m) → IsTask task
 has-form {n} {m} task is kind t before = time-has-segment (pay_of task.pay.now) n task.horizon t task.form.now is.form
     (rw kind (omega arith)) (rw kind (omega (arith, before)))
 
--- fewer lives make fewer products
-pub named-few : (n named : ℕ) → size_of (bits n named) ≤ n
-named-few n named = omega (arith, size-within (bits n named), length-bits n named)
-
-pub products-most : (ties : Ties) (few n : ℕ) → few ≤ n → products_of_leavings ties few ≤ products_of_leavings ties n
-products-most Declared few n h = pow-le-pow_right (omega arith) h
-products-most Even few n h = mul-le few (2 ^ few) n (2 ^ n) h (pow-le-pow_right (omega arith) h)
-
 -- a table ends by age 150
 no-table : (tables : List DecrementTable) (i : ℕ) → length tables ≤ i → get_or tables i empty_table ≡ empty_table
 no-table [] i h = refl
@@ -112,14 +97,6 @@ same-insurance b pay T alive i j lo hi e = record {
   encloses = record { low = rw lo e.encloses.low; high = rw hi e.encloses.high };
   narrow = record { near = omega (arith, ints, lo, hi, e.narrow.near) };
 }
-
--- the products of the chances of the named lives
-pub products-together : (n m named : ℕ) (ties : Ties) → m ≡ 2 ^ n → (2 ^ size_of (bits n named) ≤ m)
-    × (products_of_leavings ties (size_of (bits n named)) ≤ products_of_leavings ties n)
-products-together n m named ties sets = (
-  rw sets (pow-le-pow_right (omega arith) (named-few n named)),
-  products-most ties (size_of (bits n named)) n (named-few n named),
-)
 
 -- the coefficients of the next time, and none where the form does not go on
 pub next-of-form : {n m : ℕ} (task : Task n m) (k time : ℕ) (goes : Bool) (p : List ℤ) → IsPolyOf

@@ -1,5 +1,5 @@
--- The total over the sets of the lives alive encloses the value of an insurance, within its count.
-use Rattle.std.proofs.Common.{◌≡◌, ℕ, suc, ◌+◌, ◌*◌, ◌-◌, ◌^◌, ◌<◌, ◌≤◌, arith, refl, ap, sym, ◌∙◌, List, [], ◌∷◌, length, map, flat_map, Bool, true, false, cond, ℤ, pos, ◌+ℤ◌, ◌*ℤ◌, ◌-ℤ◌}
+-- The total over the sets of the named lives of those alive encloses the value of an insurance, within its count.
+use Rattle.std.proofs.Common.{◌≡◌, ℕ, suc, ◌+◌, ◌*◌, ◌-◌, ◌^◌, ◌<◌, ◌≤◌, arith, refl, ap, sym, ◌∙◌, List, [], ◌∷◌, length, map, flat_map, Bool, true, false, cond, ℤ, pos, ◌+ℤ◌, ◌*ℤ◌, ◌-ℤ◌, ⊎_elim}
 use Rattle.std.proofs.lemmas.Int.{ints}
 use Rattle.halo_sums.specs.Masks.{bits, has_bit}
 use Rattle.halo_sums.specs.Sums.{int_sum_over, numbers_from, sum_over}
@@ -28,7 +28,13 @@ use Rattle.halo_life.specs.Lists.{Lists, entry, nothing}
 use Rattle.halo_sums.specs.Within.{is_within}
 use Rattle.halo_life.specs.Total.{share, total_of}
 use Rattle.halo_compile.proofs.Sums.{sum-encloses, sum-narrow}
-use Rattle.halo_compile.proofs.Within.{within-is}
+use Rattle.halo_status.specs.Naming.{names_life}
+use Rattle.halo_model.specs.Coefficient.{form}
+use Rattle.halo_compile.specs.NamedSets.{IsNamedPart}
+use Rattle.halo_compile.proofs.NamedSets.{not-in-part, part-lies, part-named}
+use Rattle.halo_insure.specs.Leavings.{set_leavings, set_survivors}
+use Rattle.halo_insure.proofs.OneSet.{no-worth}
+use Rattle.halo_insure.proofs.Silent.{silent-form, silent-most}
 use Rattle.halo_insure.specs.Dues.{due_by_both, due_of, set_worth}
 use Rattle.halo_insure.specs.OneSet.{most_due}
 use Rattle.halo_insure.specs.Total.{HoldDues, SetsEncloseValue}
@@ -86,7 +92,8 @@ subsets-as-sets (false ∷ u) f = int_sum_over-sets (length u) (λ s. cond (lies
 module _ (b : Basis) (rule : AreLives b.lives)
     (pay : PlainPay) (is : IsValidInsurance pay) (in_time : horizon b.lives pay.body ≤ b.last_time)
     (events : SomeEvents)
-    (T : ℕ) (lists : Lists) (held : HoldDues b pay events (length b.lives) T lists) (alive : ℕ) where
+    (T : ℕ) (lists : Lists) (held : HoldDues b pay events (length b.lives) T lists)
+    (alive named : ℕ) (are : IsNamedPart pay.body alive named) where
   abbrev N : ℕ
   N = length b.lives
 
@@ -104,9 +111,21 @@ module _ (b : Basis) (rule : AreLives b.lives)
   abbrev whole : ℕ
   whole = length (taken b) * (joint_survivors T (in_set all) b.lives * accumulated b T)
 
-  within : (mask : ℕ) → mask < 2 ^ N → is_within mask alive ≡ lies_in (bits N mask) (in_set all)
-  within mask below = within-is N mask alive below ∙ lies-agree (bits N mask)
+  lies-alike : (mask : ℕ) → lies_in (bits N mask) (has_bit alive) ≡ lies_in (bits N mask) (in_set all)
+  lies-alike mask = lies-agree (bits N mask)
       (has_bit alive) (in_set all) (λ i inside. has_bit-bits N alive i (omega (arith, inside, length-bits N mask)))
+
+  -- a set with a life that the body does not name adds nothing
+  unnamed-part : (s : List Bool) → length s ≡ N → (life : ℕ)
+      → in_set s life ≡ true → names_life life pay.body ≡ false → part s ≡ pos 0
+  unnamed-part s long life of_it unnamed =
+      let silent : (t : ℕ) → form pay t s ≡ pos 0 = λ t. silent-form pay t life s of_it unnamed in
+      let none : (sign : ℤ → ℕ) → sign (pos 0) ≡ 0 → set_worth sign b pay events T s ≡ 0 = λ sign zero. no-worth b
+      (set_leavings b pay events s) (set_survivors b s) (due_of sign pay events H s) (H - T) T
+      (silent-most sign zero pay events H s silent (H - T) T) in
+      let worth = set-value-is-worth b rule pay is events T in_time s long in
+      ap (λ z. z *ℤ pos (joint_survivors T (outside (in_set all) s) b.lives))
+      (rw (none above_zero refl, none below_zero refl) at worth) ∙ omega (arith, ints)
 
   abbrev both : ℕ → Ends
   both mask = record {
@@ -115,35 +134,44 @@ module _ (b : Basis) (rule : AreLives b.lives)
   }
 
   share-encloses : (mask : ℕ) → mask < 2 ^ N
-      → Encloses (share lists alive mask) (cond (lies_in (bits N mask) (in_set all)) (part (bits N mask)) (pos 0)) whole
-  share-encloses mask below = by-case (lies_in (bits N mask) (in_set all)) refl (within mask below)
+      → Encloses (share lists named mask) (cond (lies_in (bits N mask) (in_set all)) (part (bits N mask)) (pos 0)) whole
+  share-encloses mask below = by-case (is_within mask named) refl
     where
-      by-case : (lies : Bool)
-          → lies_in (bits N mask) (in_set all) ≡ lies → is_within mask alive ≡ lies_in (bits N mask) (in_set all)
-          → Encloses (cond (is_within mask alive) (both mask) nothing)
+      zero-is-zero : Encloses nothing (pos 0) whole
+      zero-is-zero = record { low = omega (arith, ints); high = omega (arith, ints) }
+
+      no-part : (lies : Bool) (z : ℤ) → z ≡ pos 0 → cond lies z (pos 0) ≡ pos 0
+      no-part true z e = e
+      no-part false z e = refl
+
+      by-case : (is : Bool) → is_within mask named ≡ is → Encloses (share lists named mask)
           (cond (lies_in (bits N mask) (in_set all)) (part (bits N mask)) (pos 0)) whole
-      by-case false lies same = rw (same, lies) (record { low = omega (arith, ints); high = omega (arith, ints) })
-      by-case true lies same =
+      by-case false outside = rw outside (⊎_elim
+          (λ (lies : lies_in (bits N mask) (has_bit alive) ≡ false). rw (sym (lies-alike mask) ∙ lies) zero-is-zero)
+          (λ other. rw (no-part (lies_in (bits N mask) (in_set all)) (part (bits N mask)) (unnamed-part
+          (bits N mask) (length-bits N mask) other.0 other.1 other.2)) zero-is-zero)
+          (not-in-part pay.body alive named are N mask below outside))
+      by-case true inside =
           let s : List Bool = bits N mask in
-          let p = (held mask below).0 in
-          let m = (held mask below).1 in
+          let lies = sym (lies-alike mask) ∙ part-lies pay.body alive named are N mask below inside in
+          let value = held mask below (part-named pay.body alive named are N mask below inside) in
           let others : ℕ = joint_survivors T (outside (in_set all) s) b.lives in
           let worth = set-value-is-worth b rule pay is events T in_time s (length-bits N mask) in
           let split = survivors-split T (in_set all) b.lives s (length-bits N mask) lies in
           let den : whole ≡ length (taken b) * joint_survivors T (in_set s) b.lives * accumulated b T * others =
           rw split (omega arith) in
-          rw (same, lies) (encloses_at
+          rw (inside, lies) (encloses_at
           (both mask) (pos (set_worth above_zero b pay events T s) -ℤ pos (set_worth below_zero b pay events T s))
           (part s) (length (taken b) * joint_survivors T (in_set s) b.lives * accumulated b T) whole others
-          (encloses_sub (entry lists.plus mask) (entry lists.minus mask) (both mask) _ _ (length
-          (taken b) * joint_survivors T (in_set s) b.lives * accumulated b T) refl refl p.encloses m.encloses)
+          (encloses_sub (entry lists.plus mask) (entry lists.minus mask) (both mask) _ _ (length (taken b)
+          * joint_survivors T (in_set s) b.lives * accumulated b T) refl refl value.0.encloses value.1.encloses)
           (ap (λ z. z *ℤ pos others) worth) den)
 
   -- the total encloses the sum of the parts of the subsets
-  pub parts-enclosed : Encloses (total_of lists (2 ^ N) alive) (int_sum_over (subsets all) part) whole
+  pub parts-enclosed : Encloses (total_of lists (2 ^ N) named) (int_sum_over (subsets all) part) whole
   parts-enclosed =
       let sum = sum-encloses
-      (share lists alive) (λ mask. cond (lies_in (bits N mask) (in_set all)) (part (bits N mask)) (pos 0)) whole
+      (share lists named) (λ mask. cond (lies_in (bits N mask) (in_set all)) (part (bits N mask)) (pos 0)) whole
       (2 ^ N) 0 (λ mask below. share-encloses mask (omega arith)) in
       let e = int_sum_over-masks N (λ s. cond (lies_in s (in_set all)) (part s) (pos 0))
       ∙ ap (λ (n : ℕ). int_sum_over (sets n) (λ s. cond (lies_in s (in_set all)) (part s) (pos 0)))
@@ -153,36 +181,35 @@ module _ (b : Basis) (rule : AreLives b.lives)
   abbrev wide : List Bool → ℕ
   wide s = (H - T) * ((4 * size_of s + 3) * due_by_both pay events H s T (H - T))
 
-  share-narrow : (mask : ℕ) → mask < 2 ^ N → HasWidth (share lists alive mask) (wide (bits N mask))
-  share-narrow mask below = by-case (is_within mask alive)
+  share-narrow : (mask : ℕ) → mask < 2 ^ N → HasWidth (share lists named mask) (wide (bits N mask))
+  share-narrow mask below = by-case (is_within mask named) refl
     where
-      by-case : (lies : Bool) → HasWidth (cond lies (both mask) nothing) (wide (bits N mask))
-      by-case false = record { near = omega (arith, ints) }
-      by-case true =
-          let p = (held mask below).0 in
-          let m = (held mask below).1 in
+      by-case : (is : Bool) → is_within mask named ≡ is → HasWidth (share lists named mask) (wide (bits N mask))
+      by-case false outside = rw outside (record { near = omega (arith, ints) })
+      by-case true inside =
+          let value = held mask below (part-named pay.body alive named are N mask below inside) in
           let s : List Bool = bits N mask in
           let more : ℕ = most_due (due_of above_zero pay events H s) T (H - T) in
           let less : ℕ = most_due (due_of below_zero pay events H s) T (H - T) in
           let sum : (H - T) * ((4 * size_of s + 3) * more) + (H - T) * ((4 * size_of s + 3) * less)
           ≡ wide s = omega arith in
-          record { near = omega (arith, ints, p.narrow.near, m.narrow.near, sum) }
+          rw inside (record { near = omega (arith, ints, value.0.narrow.near, value.1.narrow.near, sum) })
 
-  pub total-narrow : HasWidth (total_of lists (2 ^ N) alive) (sum_over (sets N) wide)
+  pub total-narrow : HasWidth (total_of lists (2 ^ N) named) (sum_over (sets N) wide)
   total-narrow =
       let sum = sum-narrow
-      (share lists alive) (λ mask. wide (bits N mask)) (2 ^ N) 0 (λ mask below. share-narrow mask (omega arith)) in
+      (share lists named) (λ mask. wide (bits N mask)) (2 ^ N) 0 (λ mask below. share-narrow mask (omega arith)) in
       let e = sym (int_sum_over-pos (numbers_from 0 (2 ^ N)) (λ mask. wide (bits N mask)))
       ∙ int_sum_over-masks N (λ s. pos (wide s)) ∙ int_sum_over-pos (sets N) wide in
       rw (pos_injective _ _ e) at sum
 
 pub sets-enclose-value : SetsEncloseValue
 unfolding denominator
-sets-enclose-value b rule end pay is one in_time T lists held alive =
+sets-enclose-value b rule end pay is one in_time T lists held alive named are =
     let N : ℕ = length b.lives in
     let all : List Bool = bits N alive in
     let agrees : (i : ℕ) → i < N → has_bit alive i ≡ in_set all i = has_bit-bits N alive in
-    let parts = parts-enclosed b rule pay is in_time all_events T lists held alive in
+    let parts = parts-enclosed b rule pay is in_time all_events T lists held alive named are in
     let orders = insurance-by-sets b rule end pay is T all (length-bits N alive)
     ∙ int_sum_over-swap (taken b) (subsets all) (λ order s. set_value b pay all_events (rank_in order) T s
     *ℤ pos (joint_survivors T (outside (in_set all) s) b.lives))
@@ -200,7 +227,7 @@ sets-enclose-value b rule end pay is one in_time T lists held alive =
             near = omega (
               arith,
               ints,
-              (total-narrow b rule pay is in_time all_events T lists held alive).near,
+              (total-narrow b rule pay is in_time all_events T lists held alive named are).near,
               sets-within-count b pay is one all_events T,
             );
           };

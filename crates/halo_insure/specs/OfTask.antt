@@ -1,4 +1,4 @@
--- The values of all sets of the lives of a task.
+-- The values of the sets of the lives that a task names.
 use Rattle.std.specs.Prelude.{ℕ}
 use Rattle.halo_model.specs.Basis.{Basis}
 use Rattle.halo_model.specs.SetValue.{SomeEvents, all_events}
@@ -11,8 +11,8 @@ use Rattle.halo_insure.specs.Total.{HoldDues}
 abbrev pub insured_basis : {n m : ℕ} → Task n m → Basis
 insured_basis task = basis_of_task task task.group.now.ties
 
--- the lists hold for each set of lives what is due on some events from time t on, whatever the time
--- of the task's group
+-- the lists hold for each set of named lives what is due on some events from time t on, whatever
+-- the time of the task's group
 abbrev pub HoldDuesOn : {n m : ℕ} → Task n m → SomeEvents → ℕ → Lists → Type 0
 HoldDuesOn {n} task events t lists =
     HoldDues (insured_basis task) (pay_of_task task) events n t lists

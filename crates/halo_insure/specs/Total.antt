@@ -16,6 +16,7 @@ use Rattle.halo_model.specs.SetValue.{SomeEvents, all_events}
 use Rattle.halo_model.specs.Value.{denominator, numerator}
 use Rattle.halo_life.specs.Lists.{Lists, entry}
 use Rattle.halo_life.specs.Total.{total_of}
+use Rattle.halo_compile.specs.NamedSets.{AreNamed, IsNamedPart}
 use Rattle.halo_insure.specs.Dues.{due_of}
 use Rattle.halo_insure.specs.Leavings.{set_leavings, set_survivors}
 use Rattle.halo_insure.specs.OneSet.{EnclosesDues}
@@ -28,9 +29,9 @@ EnclosesSet part b pay events s T i =
     (set_survivors b s) (due_of part pay events (horizon b.lives pay.body) s)
     (4 * size_of s) T (horizon b.lives pay.body - T) i
 
--- the entries of the sets of n lives enclose what is due for each of them at T
+-- the entries of the sets of named lives, of n, enclose what is due for each of them at T
 abbrev pub HoldDues : Basis → PlainPay → SomeEvents → ℕ → ℕ → Lists → Type 0
-HoldDues b pay events n T lists = (mask : ℕ) → mask < 2 ^ n
+HoldDues b pay events n T lists = (mask : ℕ) → mask < 2 ^ n → AreNamed pay.body mask
     → EnclosesSet above_zero b pay events (bits n mask) T (entry lists.plus mask)
     × EnclosesSet below_zero b pay events (bits n mask) T (entry lists.minus mask)
 
@@ -40,11 +41,12 @@ pub record EnclosesInsurance (b : Basis) (pay : PlainPay) (T alive : ℕ) (i : E
       (pos (numerator b pay T (has_bit alive))) (denominator b T (has_bit alive))
   pub narrow : HasWidth i (width_count (measures_of b pay))
 
--- the total over the sets of the lives alive is such an interval, whichever lives are alive and
--- whatever the rule for ties
+-- the total over the sets of the named lives of those alive is such an interval, whichever lives
+-- are alive and whatever the rule for ties
 abbrev pub SetsEncloseValue : Type 0
 SetsEncloseValue = (b : Basis) → AreLives b.lives → EndBy b.last_time b.lives
     → (pay : PlainPay)
     → IsValidInsurance pay → pay.amount ≡ 1 → horizon b.lives pay.body ≤ b.last_time
     → (T : ℕ) (lists : Lists) → HoldDues b pay all_events (length b.lives) T lists
-    → (alive : ℕ) → EnclosesInsurance b pay T alive (total_of lists (2 ^ length b.lives) alive)
+    → (alive named : ℕ) → IsNamedPart pay.body alive named
+    → EnclosesInsurance b pay T alive (total_of lists (2 ^ length b.lives) named)

@@ -16,8 +16,9 @@ pub fn set_values_by_signs()
     ensures horizon { NothingIsDueAfter }
 {}
 
-/// The sum over the sets of the lives alive, of intervals that enclose what each set is worth by
-/// the signs of its coefficients, encloses the value of the insurance and is within its count.
+/// The sum over the sets of the named lives of those alive, of intervals that enclose what each set
+/// is worth by the signs of its coefficients, encloses the value of the insurance and is within its
+/// count.
 pub fn sets_enclose_the_value()
     ensures { SetsEncloseValue }
 {}

@@ -1,11 +1,12 @@
-// A year back for all sets of lives.
-ghost use Rattle.std.specs.Prelude.{◌≡◌, ◌≢◌, ℕ, suc, ◌+◌, ◌*◌, ◌^◌, ◌<◌, ◌≤◌, false, true, pos};
+// A year back for the sets of named lives.
+ghost use Rattle.std.specs.Prelude.{◌≡◌, ◌≢◌, ℕ, suc, ◌+◌, ◌*◌, ◌^◌, ◌<◌, ◌≤◌, cond, true, pos};
 ghost use Rattle.halo_num.specs.Ends.{IsSized, IsWithin, fine};
 ghost use Rattle.halo_model.specs.Backward.{above_zero, below_zero};
 ghost use Rattle.halo_poly.specs.Poly.{coefficient_at};
 ghost use Rattle.halo_life.specs.Lists.{entry, nothing};
 ghost use Rattle.halo_sums.specs.Within.{is_within};
-ghost use Rattle.halo_life.specs.Total.{AreModest};
+ghost use Rattle.halo_life.specs.Total.{AreModest, AreModestAt};
+ghost use Rattle.halo_sums.specs.Sums.{numbers_from, sum_over};
 ghost use Rattle.halo_insure.specs.YearSets.{SetGoesBack, SetsGoBack, next_coefficient};
 
 use crate::due::{YearPays, due_above, due_below};
@@ -13,6 +14,7 @@ use crate::one_year::{Chances, value_back};
 use halo_life::Work;
 use halo_num::{Ival, Steps};
 use halo_poly::Poly;
+use halo_sums::next_within;
 use std::sync::ledger::Ledger;
 
 /// A year of an insurance: its discount factor, what it pays, and the coefficients of all sets in
@@ -68,8 +70,7 @@ fn set_back<const M: usize, L: Ledger>(
     requires next { IsSized (coefficient_at year.now.next.now set) 4096 }
     requires leaving { IsWithin (entry work.old.leavings set) (pos 0) (pos fine) }
     requires survival { IsWithin (entry work.old.survivals set) (pos 0) (pos fine) }
-    requires plus { IsWithin (entry work.old.plus set) (pos 0) (pos (10 ^ 32)) }
-    requires minus { IsWithin (entry work.old.minus set) (pos 0) (pos (10 ^ 32)) }
+    requires modest { AreModestAt set work.old }
     ensures plus { SetGoesBack above_zero year.now work.old set
         (entry work.old.plus set) (entry work.new.plus set) }
     ensures minus { SetGoesBack below_zero year.now work.old set
@@ -94,68 +95,35 @@ fn set_back<const M: usize, L: Ledger>(
     work.put(set, plus, minus);
 }
 
-/// Carries the values of a set within `named` back by a year, and makes those of another set 0.
-fn named_set_back<const M: usize, L: Ledger>(
-    work: &mut Work<M>,
-    year: &Year<M>,
-    named: u16,
-    set: u16,
-    steps: &mut Steps<L>,
-)
-    requires set { set < M }
-    requires discount { IsWithin year.now.discount (pos 0) (pos fine) }
-    requires payment { year.now.pays.payment ≤ 65535 }
-    requires here { IsSized (coefficient_at year.now.here.now set) 4096 }
-    requires next { IsSized (coefficient_at year.now.next.now set) 4096 }
-    requires leaving { is_within set named ≡ true →
-        IsWithin (entry work.old.leavings set) (pos 0) (pos fine) }
-    requires survival { is_within set named ≡ true →
-        IsWithin (entry work.old.survivals set) (pos 0) (pos fine) }
-    requires plus { IsWithin (entry work.old.plus set) (pos 0) (pos (10 ^ 32)) }
-    requires minus { IsWithin (entry work.old.minus set) (pos 0) (pos (10 ^ 32)) }
-    ensures plus { is_within set named ≡ true → SetGoesBack above_zero year.now work.old set
-        (entry work.old.plus set) (entry work.new.plus set) }
-    ensures minus { is_within set named ≡ true → SetGoesBack below_zero year.now work.old set
-        (entry work.old.minus set) (entry work.new.minus set) }
-    ensures none { is_within set named ≡ false →
-        (entry work.new.plus set ≡ nothing) × (entry work.new.minus set ≡ nothing) }
-    ensures others { (mask : ℕ) → mask ≢ set →
-        (entry work.new.plus mask ≡ entry work.old.plus mask)
-        × (entry work.new.minus mask ≡ entry work.old.minus mask) }
-    ensures survivals { work.new.survivals ≡ work.old.survivals }
-    ensures leavings { work.new.leavings ≡ work.old.leavings }
-    ensures cost { steps.new ≤ steps.old + 4 }
-{
-    if set & named != set {
-        clear(work, set);
-        return;
-    }
-    set_back(work, year, set, steps);
-}
-
-/// Carries the values of all sets within `named` back by a year, and makes those of all others 0.
+/// Carries the values of all sets within `named` back by a year, and leaves those of all others.
 ///
-/// It makes four products for each set.
+/// It makes four products for each set within `named`.
 pub(crate) fn sets_back<const M: usize, L: Ledger>(
     work: &mut Work<M>,
     year: &Year<M>,
     named: u16,
     steps: &mut Steps<L>,
 )
-    requires few { M ≤ 4096 }
+    requires below { named < M }
     requires discount { IsWithin year.now.discount (pos 0) (pos fine) }
     requires payment { year.now.pays.payment ≤ 65535 }
-    requires here { (mask : ℕ) → mask < M → IsSized (coefficient_at year.now.here.now mask) 4096 }
-    requires next { (mask : ℕ) → mask < M → IsSized (coefficient_at year.now.next.now mask) 4096 }
-    requires leavings { (mask : ℕ) → mask < M → is_within mask named ≡ true →
+    requires here { (mask : ℕ) → is_within mask named ≡ true →
+        IsSized (coefficient_at year.now.here.now mask) 4096 }
+    requires next { (mask : ℕ) → is_within mask named ≡ true →
+        IsSized (coefficient_at year.now.next.now mask) 4096 }
+    requires leavings { (mask : ℕ) → is_within mask named ≡ true →
         IsWithin (entry work.old.leavings mask) (pos 0) (pos fine) }
-    requires survivals { (mask : ℕ) → mask < M → is_within mask named ≡ true →
+    requires survivals { (mask : ℕ) → is_within mask named ≡ true →
         IsWithin (entry work.old.survivals mask) (pos 0) (pos fine) }
-    requires modest { AreModest M work.old }
+    requires modest { AreModest named work.old }
     ensures back { SetsGoBack year.now named work.old work.new }
-    ensures cost { steps.new ≤ steps.old + 4 * M }
+    ensures cost { steps.new ≤
+        steps.old + 4 * sum_over (numbers_from 0 M) (λ mask. cond (is_within mask named) 1 0) }
 {
-    for set in 0..M as u16 {
-        named_set_back(work, year, named, set, steps);
+    set_back(work, year, 0, steps);
+    let mut set = 0;
+    while set != named {
+        set = next_within(set, named);
+        set_back(work, year, set, steps);
     }
 }

@@ -1,9 +1,11 @@
-// Insurances year by year: the values of all sets of lives at the horizon, and a year back.
+// Insurances year by year: the values of all sets of named lives at the horizon, and a year back.
 ghost use Rattle.std.specs.Prelude.{◌≡◌, ℕ, suc, ◌+◌, ◌*◌, ◌^◌, ◌<◌, ◌≤◌, nat_lt};
 ghost use Rattle.halo_status.specs.declared.pay.Kind.TheVariants.{Insurance};
 ghost use Rattle.halo_sums.specs.Masks.{has_bit};
 ghost use Rattle.halo_model.specs.SetValue.{SomeEvents};
-ghost use Rattle.halo_life.specs.Total.{AreModest};
+ghost use Rattle.halo_life.specs.Total.{AreModestAt};
+ghost use Rattle.halo_status.specs.Pay.{pay_of};
+ghost use Rattle.halo_compile.specs.NamedSets.{AreNamed, named_of_task};
 ghost use Rattle.halo_life.specs.YearOfSets.{products_of_leavings};
 ghost use Rattle.halo_compile.specs.ValidTask.{IsTask};
 ghost use Rattle.halo_insure.specs.Dues.{ends_count};
@@ -17,25 +19,31 @@ use crate::sets::{Year, clear, sets_back};
 use halo_compile::Task;
 use halo_life::Work;
 use halo_num::Steps;
+use halo_sums::next_within;
 use std::sync::ledger::Ledger;
 
-/// The values of all sets at the horizon of the task, and at any later time: nothing is due any
-/// more.
+/// The values of all sets of named lives at the horizon of the task, and at any later time: nothing
+/// is due any more.
 pub fn at_horizon<const N: usize, const M: usize>(task: &Task<N, M>, work: &mut Work<M>)
     requires task { IsTask task.now }
     requires insurance { task.now.pay.now.kind ≡ Insurance }
     ensures values { (t : ℕ) → task.now.horizon ≤ t → HoldDuesAt task.now t work.new }
 {
     let _start = task.group.start();
-    for set in 0..M as u16 {
+    let named = task.pay.body.lives();
+    clear(work, 0);
+    let mut set = 0;
+    while set != named {
+        set = next_within(set, named);
         clear(work, set);
     }
 }
 
-/// The values of all sets at time `k`, by those at time k + 1. They do not depend on the time of
-/// the task's group, nor on who is alive then.
+/// The values of all sets of named lives at time `k`, by those at time k + 1. They do not depend on
+/// the time of the task's group, nor on who is alive then.
 ///
-/// The counter is raised by the products of the chances of the year, and by five for each set.
+/// The counter is raised by the products of the chances of the year, and by five for each set of
+/// the lives that the body names, whatever the number of lives.
 pub fn year_back<const N: usize, const M: usize, L: Ledger>(
     task: &Task<N, M>,
     k: u16,
@@ -47,7 +55,8 @@ pub fn year_back<const N: usize, const M: usize, L: Ledger>(
     requires time { k < task.now.horizon }
     requires values { HoldDuesAt task.now (suc k) work.old }
     ensures values { HoldDuesAt task.now k work.new }
-    ensures cost { steps.new ≤ steps.old + products_of_leavings task.now.group.now.ties N + 5 * M }
+    ensures cost { let named = named_of_task task.now in
+        steps.new ≤ steps.old + products_of_leavings task.now.group.now.ties named + 5 * 2 ^ named }
 {
     let _start = task.group.start();
     let counted = failing_lives(task.pay);
@@ -67,12 +76,14 @@ fn carry_back<const N: usize, const M: usize, L: Ledger>(
     requires task { IsTask task.now }
     requires insurance { task.now.pay.now.kind ≡ Insurance }
     requires time { k < task.now.horizon }
-    requires modest { AreModest M work.old }
+    requires modest { (set : ℕ) → set < M → AreNamed (pay_of task.now.pay.now).body set →
+        AreModestAt set work.old }
     ensures values { (events : SomeEvents)
         → ((i : ℕ) → has_bit counted i ≡ counts (pay_of_task task.now) events i)
         → ends ≡ ends_count (pay_of_task task.now) events (suc k)
         → HoldDuesOn task.now events (suc k) work.old → HoldDuesOn task.now events k work.new }
-    ensures cost { steps.new ≤ steps.old + products_of_leavings task.now.group.now.ties N + 5 * M }
+    ensures cost { let named = named_of_task task.now in
+        steps.new ≤ steps.old + products_of_leavings task.now.group.now.ties named + 5 * 2 ^ named }
 {
     let _start = task.group.start();
     let named = task.pay.body.lives();

@@ -12,8 +12,8 @@ use halo_life::Work;
 use halo_num::Ival;
 
 /// The value at time `t` of an insurance of 1 with the lives of a set alive, each of which has a
-/// row at its age then: of the payments at the ends of the years from `t` on, by the rule for ties of
-/// the task's group. It is no wider than its count, and from 0 to the most that it can be worth.
+/// row at its age then: of the payments at the ends of the years from `t` on, by the rule for ties
+/// of the task's group. It is no wider than its count, and from 0 to the most that it can be worth.
 pub fn value_at<const N: usize, const M: usize>(
     task: &Task<N, M>,
     t: u16,
@@ -29,7 +29,7 @@ pub fn value_at<const N: usize, const M: usize>(
     // The proof sees here that the lives have rows, and that each year has a fraction.
     let _start = task.group.start();
     let _fractions = task.interest.fractions();
-    let total = work.total(alive);
+    let total = work.total(alive & task.pay.body.lives());
     let most = greatest_factor(task.pay.vary, task.horizon);
     between(total, 0, most as u64)
 }

@@ -1,9 +1,14 @@
-use Rattle.std.proofs.Common.{◌≡◌, ℕ, ◌<◌}
+use Rattle.std.proofs.Common.{◌≡◌, ℕ, ◌+◌, ◌-◌, ◌<◌, true}
+use Rattle.halo_sums.specs.Within.{is_within}
 use Rattle.halo_life.specs.Lists.{entry, nothing}
 use Rattle.halo_insure.proofs.step.at_horizon.Given as goal
 
 abbrev pub invariant-loop-set : goal.invariant-loop-set
 invariant-loop-set g l = record {
-  plus : (k : ℕ) → k < l.set → entry l.work.plus k ≡ nothing;
-  minus : (k : ℕ) → k < l.set → entry l.work.minus k ≡ nothing;
+  within : is_within l.set l.named ≡ true;
+  plus : (k : ℕ) → k < l.set + 1 → is_within k l.named ≡ true → entry l.work.plus k ≡ nothing;
+  minus : (k : ℕ) → k < l.set + 1 → is_within k l.named ≡ true → entry l.work.minus k ≡ nothing;
 }
+
+abbrev pub decreases-loop-set : goal.decreases-loop-set
+decreases-loop-set g l = l.named - l.set

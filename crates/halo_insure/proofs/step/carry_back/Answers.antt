@@ -1,21 +1,47 @@
-use Rattle.std.proofs.Common.{ℕ, suc, ◌^◌, ◌<◌, arith, lit<, refl, ◌∙◌}
+use Rattle.std.proofs.Common.{◌≡◌, ℕ, suc, ◌^◌, ◌<◌, cond, true, arith, lit<, refl, sym, subst, ◌∙◌}
 use Rattle.halo_status.specs.Pay.{pay_of}
 use Rattle.halo_compile.specs.OfTask.{pay_of_task}
 use Rattle.halo_insure.specs.OfTask.{insured_basis}
 use Rattle.halo_insure.proofs.Carried.{dues-carried, held-same}
 use Rattle.halo_insure.proofs.Small.{coefficient-room}
 use Rattle.halo_compile.proofs.Coefficients.{coefficients-of-one}
-use Rattle.halo_compile.proofs.Tasks.{few-sets}
-use Rattle.halo_insure.proofs.Tasks.{are-lives, has-form, lives-of-task, next-of-form, products-together}
+use Rattle.halo_sums.specs.Sums.{numbers_from, sum_over}
+use Rattle.halo_sums.specs.Within.{is_within}
+use Rattle.halo_sums.proofs.Within.{within-below}
+use Rattle.halo_compile.specs.NamedSets.{named_of_task}
+use Rattle.halo_compile.proofs.NamedSets.{all-named, modest-within, named-sets, named-size, set-below}
+use Rattle.halo_insure.proofs.Tasks.{are-lives, has-form, lives-of-task, next-of-form}
 use Rattle.halo_insure.proofs.step.carry_back.Goals as goal
 
 pub survivals-requires : goal.survivals-requires
 survivals-requires g c =
-    (lit< tt, (lit< tt, (c.requires.task.sets, omega (arith, c.requires.time, c.requires.task.horizon_in))))
+    let body = (pay_of c.args.task.now.pay.now).body in
+    let named = all-named c.lives-named.result body c.lives-named.ensures in
+    let below = set-below c.args.task.now c.requires.task c.lives-named.result named in (
+      lit< tt,
+      (
+        lit< tt,
+        (
+          c.requires.task.sets,
+          (below, omega (arith, c.requires.time, c.requires.task.horizon_in)),
+        ),
+      ),
+    )
 
 pub leavings-requires : goal.leavings-requires
 leavings-requires g c =
-    (lit< tt, (lit< tt, (c.requires.task.sets, omega (arith, c.requires.time, c.requires.task.horizon_in))))
+    let body = (pay_of c.args.task.now.pay.now).body in
+    let named = all-named c.lives-named.result body c.lives-named.ensures in
+    let below = set-below c.args.task.now c.requires.task c.lives-named.result named in (
+      lit< tt,
+      (
+        lit< tt,
+        (
+          c.requires.task.sets,
+          (below, omega (arith, c.requires.time, c.requires.task.horizon_in)),
+        ),
+      ),
+    )
 
 pub at-requires : goal.at-requires
 at-requires g c =
@@ -30,35 +56,38 @@ sets_back-requires g c =
     let task = c.args.task.now in
     let is = c.requires.task in
     let few = c.start-start.ensures.group.few in
-    let within : (mask : ℕ) → mask < g.row.M → mask < 2 ^ g.row.N = λ mask h. omega (arith, h, is.sets) in (
+    let named = all-named c.lives-named.result (pay_of task.pay.now).body c.lives-named.ensures in
+    let below = set-below task is c.lives-named.result named in
+    let inside : (mask : ℕ) → is_within mask c.lives-named.result ≡ true → mask < 2 ^ g.row.N =
+    λ mask within. omega (arith, is.sets, below, within-below mask c.lives-named.result within) in (
       lit< tt,
       (
         lit< tt,
         (
-          few-sets g.row.N g.row.M is.sets few,
+          below,
           (
             c.year.ensures.within,
             (
               c.payment_in.ensures.small,
               (
                 λ mask h. rw (coefficients-of-one (pay_of task.pay.now) g.row.N c.args.k c.at.result.now
-                    (c.at.ensures (pay_of task.pay.now) g.row.N task.horizon is.form) mask (within mask h))
+                    (c.at.ensures (pay_of task.pay.now) g.row.N task.horizon is.form) mask (inside mask h))
                     (coefficient-room (pay_of_task task) c.args.k g.row.N mask few),
                 (
                   λ mask h. rw (coefficients-of-one (pay_of task.pay.now) g.row.N c.next_time.result c.at-2.result.now
-                      (c.at-2.ensures (pay_of task.pay.now) g.row.N task.horizon is.form) mask (within mask h))
+                      (c.at-2.ensures (pay_of task.pay.now) g.row.N task.horizon is.form) mask (inside mask h))
                       (coefficient-room (pay_of_task task) c.next_time.result g.row.N mask few),
                   (
-                    λ mask h inside. (c.leavings.ensures.chances mask (within mask h) inside).within,
+                    λ mask h. (c.leavings.ensures.chances mask (inside mask h) h).within,
                     (
-                      λ mask h inside. rw c.leavings.ensures.survivals
-                          ((c.survivals.ensures.chances mask (within mask h) inside).within),
+                      λ mask h. rw c.leavings.ensures.survivals
+                          ((c.survivals.ensures.chances mask (inside mask h) h).within),
                       λ mask h. rw (
                         c.leavings.ensures.plus,
                         c.leavings.ensures.minus,
                         c.survivals.ensures.plus,
                         c.survivals.ensures.minus,
-                      ) (c.requires.modest mask h),
+                      ) (modest-within task is c.lives-named.result named c.args.work.now c.requires.modest mask h),
                     ),
                   ),
                 ),
@@ -77,7 +106,7 @@ returns-clause-values g c = λ events counting ends held.
     let b = insured_basis task in
     let poly = c.at.ensures (pay_of task.pay.now) g.row.N task.horizon is.form in
     let later = c.at-2.ensures (pay_of task.pay.now) g.row.N task.horizon is.form in
-    dues-carried {m = g.row.M} g.row.N is.sets b (are-lives task group) (pay_of_task task) refl events
+    dues-carried {m = g.row.M} g.row.N b (are-lives task group) (pay_of_task task) refl events
     (lives-of-task task group) c.args.k (rw (← is.horizon_is) is.horizon_in) (rw (← is.horizon_is) c.requires.time)
     _ c.year.ensures.encloses c.year.ensures.narrow c.payment_in.ensures.payment ends
     (λ mask h. coefficients-of-one (pay_of task.pay.now) g.row.N c.args.k c.at.result.now poly mask h)
@@ -94,5 +123,15 @@ returns-clause-values g c = λ events counting ends held.
 pub returns-clause-cost : goal.returns-clause-cost
 returns-clause-cost g c =
     let task = c.args.task.now in
-    let most = products-together g.row.N g.row.M c.lives-named.result task.group.now.ties c.requires.task.sets in
-    omega (arith, most.0, most.1, c.survivals.ensures.cost, c.leavings.ensures.cost, c.sets_back.ensures.cost)
+    let body = (pay_of task.pay.now).body in
+    let size = named-size c.lives-named.result body c.lives-named.ensures g.row.N in
+    let counted = λ (m : ℕ). sum_over (numbers_from 0 m) (λ mask. cond (is_within mask c.lives-named.result) 1 0) in
+    let all = subst (λ (m : ℕ). counted m ≡ 2 ^ named_of_task task)
+    (sym c.requires.task.sets) (named-sets c.lives-named.result body c.lives-named.ensures g.row.N) in
+    omega (
+      arith,
+      all,
+      rw size at c.survivals.ensures.cost,
+      rw size at c.leavings.ensures.cost,
+      c.sets_back.ensures.cost,
+    )

@@ -1,5 +1,4 @@
-use Rattle.std.proofs.Common.{◌≡◌, ℕ, suc, ◌+◌, arith, lit<, refl, sym, subst}
-use Rattle.halo_life.specs.Total.{AreModest}
+use Rattle.std.proofs.Common.{◌≡◌, suc, ◌+◌, arith, lit<, refl}
 use Rattle.halo_model.specs.SetValue.{all_events}
 use Rattle.halo_compile.specs.OfTask.{pay_of_task}
 use Rattle.halo_insure.specs.OfTask.{insured_basis}
@@ -19,10 +18,9 @@ carry_back-requires g c =
             c.requires.insurance,
             (
               c.requires.time,
-              subst (λ (m : ℕ). AreModest m c.args.work.now) (sym is.sets)
-                  (dues-modest (insured_basis task) (pay_of_task task) refl is.valid.vary
+              λ mask below. (dues-modest (insured_basis task) (pay_of_task task) refl is.valid.vary
                   (rw (← is.horizon_is) is.horizon_in) all_events g.row.N c.start-start.ensures.group.few
-                  (suc c.args.k) c.args.work.now c.requires.values),
+                  (suc c.args.k) c.args.work.now c.requires.values) mask (omega (arith, below, is.sets)),
             ),
           ),
         ),
