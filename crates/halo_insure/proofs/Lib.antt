@@ -12,3 +12,7 @@ pub mod Small
 pub mod Carried
 pub mod Tasks
 pub mod Bounds
+pub mod Living
+pub mod WorthOn
+pub mod PartTotals
+pub mod Passes

@@ -16,6 +16,7 @@ use Rattle.halo_status.specs.Pay.{PlainPay}
 use Rattle.halo_model.specs.Backward.{above_zero, below_zero, lies_in, outside}
 use Rattle.halo_model.specs.Basis.{Basis, accumulated, taken}
 use Rattle.halo_model.specs.Chance.{IsValidInsurance}
+use Rattle.halo_model.specs.Counts.{measures_of, width_count}
 use Rattle.halo_model.specs.Horizon.{horizon}
 use Rattle.halo_model.specs.Life.{AreLives, PlainLife, after_first}
 use Rattle.halo_model.specs.Order.{rank_in}
@@ -50,7 +51,7 @@ joint-agree T (x ∷ lives) S U h = rw (
   joint-agree T lives (after_first S) (after_first U) (λ i below. h (suc i) (omega arith)),
 ) refl
 
-outcomes-agree : (T : ℕ) (lives : List PlainLife) (S U : ℕ → Bool)
+pub outcomes-agree : (T : ℕ) (lives : List PlainLife) (S U : ℕ → Bool)
     → ((i : ℕ) → i < length lives → S i ≡ U i) → outcomes T S lives ≡ outcomes T U lives
 outcomes-agree T [] S U h = refl
 outcomes-agree T (x ∷ lives) S U h =
@@ -65,7 +66,7 @@ lies-agree (false ∷ s) S U h = lies-agree s (after_first S) (after_first U) (�
 lies-agree (true ∷ s) S U h =
     rw (h 0 (omega arith), lies-agree s (after_first S) (after_first U) (λ i below. h (suc i) (omega arith))) refl
 
-numerator-agree : (b : Basis) (pay : PlainPay) (T : ℕ) (S U : ℕ → Bool)
+pub numerator-agree : (b : Basis) (pay : PlainPay) (T : ℕ) (S U : ℕ → Bool)
     → ((i : ℕ) → i < length b.lives → S i ≡ U i) → numerator b pay T S ≡ numerator b pay T U
 unfolding numerator
 numerator-agree b pay T S U h = rw (outcomes-agree T b.lives S U h) refl
@@ -203,32 +204,36 @@ module _ (b : Basis) (rule : AreLives b.lives)
       ∙ int_sum_over-masks N (λ s. pos (wide s)) ∙ int_sum_over-pos (sets N) wide in
       rw (pos_injective _ _ e) at sum
 
+  -- so the total encloses what falls on the events, where that is the sum over the subsets of those alive
+  pub worth-enclosed : (worth : ℤ)
+      → worth ≡ int_sum_over (taken b) (λ order. int_sum_over (subsets all)
+      (λ s. set_value b pay events (rank_in order) T s *ℤ pos (joint_survivors T (outside (in_set all) s) b.lives)))
+      → Encloses (total_of lists (2 ^ N) named) worth (denominator b T (has_bit alive))
+  unfolding denominator
+  worth-enclosed worth by_sets =
+      let orders : worth ≡ int_sum_over (subsets all) part =
+      by_sets ∙ int_sum_over-swap (taken b) (subsets all)
+      (λ order s. set_value b pay events (rank_in order) T s
+      *ℤ pos (joint_survivors T (outside (in_set all) s) b.lives))
+      ∙ int_sum_over-ext (subsets all) _ _
+      (λ s. int_sum_over-scale_right (taken b) (pos (joint_survivors T (outside (in_set all) s) b.lives))
+      (λ order. set_value b pay events (rank_in order) T s)) in
+      rw (orders, joint-agree T b.lives (has_bit alive) (in_set all) (has_bit-bits N alive)) parts-enclosed
+
+  -- and it is no wider than the count of the insurance
+  pub total-within-count : pay.amount ≡ 1
+      → HasWidth (total_of lists (2 ^ N) named) (width_count (measures_of b pay))
+  total-within-count one =
+      record { near = omega (arith, ints, total-narrow.near, sets-within-count b pay is one events T) }
+
 pub sets-enclose-value : SetsEncloseValue
-unfolding denominator
 sets-enclose-value b rule end pay is one in_time T lists held alive named are =
-    let N : ℕ = length b.lives in
-    let all : List Bool = bits N alive in
-    let agrees : (i : ℕ) → i < N → has_bit alive i ≡ in_set all i = has_bit-bits N alive in
-    let parts = parts-enclosed b rule pay is in_time all_events T lists held alive named are in
-    let orders = insurance-by-sets b rule end pay is T all (length-bits N alive)
-    ∙ int_sum_over-swap (taken b) (subsets all) (λ order s. set_value b pay all_events (rank_in order) T s
-    *ℤ pos (joint_survivors T (outside (in_set all) s) b.lives))
-    ∙ int_sum_over-ext (subsets all) _ _
-    (λ s. int_sum_over-scale_right (taken b) (pos (joint_survivors T (outside (in_set all) s) b.lives))
-    (λ order. set_value b pay all_events (rank_in order) T s)) in
-    let whole = rw (← orders) at parts in
+    let all : List Bool = bits (length b.lives) alive in
+    let agrees : numerator b pay T (has_bit alive) ≡ numerator b pay T (in_set all) =
+    numerator-agree b pay T (has_bit alive) (in_set all) (has_bit-bits (length b.lives) alive) in
     record {
-      encloses = rw (
-        numerator-agree b pay T (has_bit alive) (in_set all) agrees,
-        joint-agree T b.lives (has_bit alive) (in_set all) agrees,
-      ) whole;
-      narrow =
-          record {
-            near = omega (
-              arith,
-              ints,
-              (total-narrow b rule pay is in_time all_events T lists held alive named are).near,
-              sets-within-count b pay is one all_events T,
-            );
-          };
+      encloses = worth-enclosed b rule pay is in_time all_events T lists held alive named are
+          (pos (numerator b pay T (has_bit alive)))
+          (ap pos agrees ∙ insurance-by-sets b rule end pay is T all (length-bits (length b.lives) alive));
+      narrow = total-within-count b rule pay is in_time all_events T lists held alive named are one;
     }

@@ -4,3 +4,5 @@ pub mod Dues
 pub mod Total
 pub mod OfTask
 pub mod YearSets
+pub mod Parts
+pub mod Events

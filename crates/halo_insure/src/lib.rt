@@ -7,14 +7,20 @@
 #![tactic(auto)]
 
 mod due;
+mod events;
 mod failing;
 pub mod laws;
 mod one_year;
+mod parts;
+mod pass;
 mod sets;
 mod step;
 #[cfg(test)]
 mod tests;
 mod value;
+mod whole;
 
+pub use parts::{on_life, on_term};
 pub use step::{at_horizon, year_back};
 pub use value::value_at;
+pub use whole::{contingent, insurance, insurance_all};

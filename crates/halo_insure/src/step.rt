@@ -64,8 +64,8 @@ pub fn year_back<const N: usize, const M: usize, L: Ledger>(
     carry_back(task, k, counted, ends, work, steps);
 }
 
-// A year back, where the leavings of some lives count, and the end of a term of k + 1 years may.
-fn carry_back<const N: usize, const M: usize, L: Ledger>(
+/// A year back, where the leavings of some lives count, and the end of a term of k + 1 years may.
+pub(crate) fn carry_back<const N: usize, const M: usize, L: Ledger>(
     task: &Task<N, M>,
     k: u16,
     counted: u16,

@@ -10,7 +10,7 @@ ghost use Rattle.halo_table.specs.DecrementTable.{HasRow};
 ghost use Rattle.halo_model.specs.Horizon.{HasShortTerms};
 ghost use Rattle.halo_compile.specs.ValidTask.{IsTask};
 
-use crate::{at_horizon, value_at, year_back};
+use crate::{at_horizon, contingent, insurance, on_life, on_term, value_at, year_back};
 use halo_compile::{Task, compile};
 use halo_interest::{Interest, LAST_TIME};
 use halo_life::{Group, Work};
@@ -49,6 +49,16 @@ enum By {
     AnyCause,
     Death,
     Lapse,
+}
+
+// What is asked of an insurance: its value, year by year or in one call, or what falls on one event.
+#[derive(Clone, Copy)]
+enum Asked {
+    Years,
+    Whole,
+    Unmarked,
+    OnLife(u8),
+    OnTerm(u16),
 }
 
 // A status of the two lives.
@@ -140,12 +150,43 @@ fn value_at_start<const N: usize, const M: usize, L: Ledger>(
     value_at(task, 0, alive, work)
 }
 
-// The value of an insurance on the two lives.
+// What is asked of a task, at time 0.
+fn answer<L: Ledger>(
+    rt: &impl Abort,
+    task: &Task<2, 4>,
+    asked: Asked,
+    work: &mut Work<4>,
+    steps: &mut Steps<L>,
+) -> Ival
+    requires task { IsTask task.now }
+    requires insurance { task.now.pay.now.kind ≡ Insurance }
+{
+    match asked {
+        Asked::Years => value_at_start(task, work, steps),
+        Asked::Whole => contingent(task, work, steps),
+        Asked::Unmarked => {
+            assert!(rt; task.pay.mark.is_none() && task.pay.causes.is_none());
+            insurance(task, work, steps)
+        }
+        Asked::OnLife(life) => {
+            assert!(rt; life < 2);
+            on_life(task, life, work, steps)
+        }
+        Asked::OnTerm(n) => {
+            assert!(rt; 1 <= n && n <= LAST_TIME);
+            on_term(task, n, work, steps)
+        }
+    }
+}
+
+// What is asked of an insurance on the two lives.
 fn value_of<L: Ledger>(
+    rt: &impl Abort,
     alloc: Global,
     group: &Group<2>,
     interest: &Interest,
     pay: &Pay,
+    asked: Asked,
     steps: &mut Steps<L>,
 ) -> Result<Ival, Fail>
     requires valid { IsValidPay (pay_of pay.now) }
@@ -163,7 +204,7 @@ fn value_of<L: Ledger>(
         horizon,
     };
     let mut work = Work::<4>::new(alloc)?;
-    Ok(value_at_start(&task, &mut work, steps))
+    Ok(answer(rt, &task, asked, &mut work, steps))
 }
 
 fn assert_worth(rt: &impl Abort, name: &str, value: Ival, hundred_millionths: i128) {
@@ -200,7 +241,34 @@ fn assert_by_any<L: Ledger>(
     ];
     for (name, increasing, defer, body, worth) in cases {
         let pay = insurance_on(rt, alloc, increasing, defer, By::AnyCause, body)?;
-        let value = value_of(alloc, group, interest, &pay, steps)?;
+        let value = value_of(rt, alloc, group, interest, &pay, Asked::Years, steps)?;
+        assert_worth(rt, name, value, worth);
+    }
+    Ok(())
+}
+
+// On one event, and in all.
+fn assert_parts<L: Ledger>(
+    rt: &impl Abort,
+    alloc: Global,
+    group: &Group<2>,
+    interest: &Interest,
+    steps: &mut Steps<L>,
+) -> Result<(), Fail> {
+    use Asked::{OnLife, OnTerm, Unmarked};
+    let two_years = Body::FirstForTwoYears;
+    let cases = [
+        ("A[x:<2>] on x", two_years, OnLife(0), 31_250_000),
+        ("A[x:<2>] on y", two_years, OnLife(1), 0),
+        ("A[x:<2>] on its term", two_years, OnTerm(2), 6_250_000),
+        ("A[x:<2>] on no term", two_years, OnTerm(1), 0),
+        ("A[x:<2>] in all", two_years, Unmarked, 37_500_000),
+        ("A[x:y] on x", Body::Both, OnLife(0), 28_906_250),
+        ("A[x:y] on y", Body::Both, OnLife(1), 14_062_500),
+    ];
+    for (name, body, asked, worth) in cases {
+        let pay = insurance_on(rt, alloc, false, 0, By::AnyCause, body)?;
+        let value = value_of(rt, alloc, group, interest, &pay, asked, steps)?;
         assert_worth(rt, name, value, worth);
     }
     Ok(())
@@ -214,13 +282,19 @@ fn assert_by_cause<L: Ledger>(
     interest: &Interest,
     steps: &mut Steps<L>,
 ) -> Result<(), Fail> {
+    use Asked::{OnLife, Years};
+    use Body::{Both, First};
+    use By::{Death, Lapse};
     let cases = [
-        ("A{lapse}[x:y]", By::Lapse, Body::Both, 21_875_000),
-        ("A{death}[x]", By::Death, Body::First, 18_750_000),
+        ("A{lapse}[x:y]", Lapse, Both, Years, 21_875_000),
+        ("A{lapse}[x:y] on x", Lapse, Both, OnLife(0), 15_625_000),
+        ("A{lapse}[x:y] on y", Lapse, Both, OnLife(1), 6_250_000),
+        ("A{death}[x]", Death, First, Years, 18_750_000),
+        ("A{death}[x] on x", Death, First, OnLife(0), 18_750_000),
     ];
-    for (name, by, body, worth) in cases {
+    for (name, by, body, asked, worth) in cases {
         let pay = insurance_on(rt, alloc, false, 0, by, body)?;
-        let value = value_of(alloc, group, interest, &pay, steps)?;
+        let value = value_of(rt, alloc, group, interest, &pay, asked, steps)?;
         assert_worth(rt, name, value, worth);
     }
     Ok(())
@@ -235,13 +309,15 @@ fn assert_marked<L: Ledger>(
     steps: &mut Steps<L>,
 ) -> Result<(), Fail> {
     let cases = [
-        ("A[x^1:y]", 0, 1, 28_906_250),
-        ("A[x:y^1]", 1, 1, 14_062_500),
-        ("A[x^2:y]", 0, 2, 5_468_750),
+        ("A[x^1:y]", 0, 1, Asked::Years, 28_906_250),
+        ("A[x^1:y] on x", 0, 1, Asked::OnLife(0), 28_906_250),
+        ("A[x^1:y] on y", 0, 1, Asked::OnLife(1), 0),
+        ("A[x:y^1]", 1, 1, Asked::Whole, 14_062_500),
+        ("A[x^2:y]", 0, 2, Asked::Years, 5_468_750),
     ];
-    for (name, member, rank, worth) in cases {
+    for (name, member, rank, asked, worth) in cases {
         let pay = insurance_at(rt, alloc, member, rank)?;
-        let value = value_of(alloc, group, interest, &pay, steps)?;
+        let value = value_of(rt, alloc, group, interest, &pay, asked, steps)?;
         assert_worth(rt, name, value, worth);
     }
     Ok(())
@@ -256,16 +332,20 @@ fn assert_even<L: Ledger>(
     steps: &mut Steps<L>,
 ) -> Result<(), Fail> {
     let on_first = insurance_on(rt, alloc, false, 0, By::AnyCause, Body::First)?;
-    let value = value_of(alloc, group, interest, &on_first, steps)?;
+    let value = value_of(rt, alloc, group, interest, &on_first, Asked::Years, steps)?;
     assert_worth(rt, "A[x] with even ties", value, 34_375_000);
     for (name, member) in [
         ("A[x^1:y] with even ties", 0),
         ("A[x:y^1] with even ties", 1),
     ] {
         let pay = insurance_at(rt, alloc, member, 1)?;
-        let value = value_of(alloc, group, interest, &pay, steps)?;
+        let value = value_of(rt, alloc, group, interest, &pay, Asked::Years, steps)?;
         assert_worth(rt, name, value, 21_484_375);
     }
+    let on_both = insurance_on(rt, alloc, false, 0, By::AnyCause, Body::Both)?;
+    let asked = Asked::OnLife(1);
+    let on_second = value_of(rt, alloc, group, interest, &on_both, asked, steps)?;
+    assert_worth(rt, "A[x:y] on y with even ties", on_second, 21_484_375);
     Ok(())
 }
 
@@ -279,7 +359,7 @@ fn assert_by_years<L: Ledger>(
     let mut interest = Interest::new(1, 1).ok_or("1/1 is a fraction")?;
     interest.add_from(1, 0, 1).ok_or("0/1 holds from year 1")?;
     let pay = insurance_on(rt, alloc, false, 0, By::AnyCause, Body::First)?;
-    let value = value_of(alloc, group, &interest, &pay, steps)?;
+    let value = value_of(rt, alloc, group, &interest, &pay, Asked::Years, steps)?;
     assert_worth(rt, "A[x] by years", value, 50_000_000);
     Ok(())
 }
@@ -298,6 +378,7 @@ fn assert_worked<L: Ledger>(rt: &impl Abort, alloc: Global, blank: Blank) -> Res
     let tables = table(rt, alloc, TABLE)?;
     let group = Group::<2>::new(&tables, &lives, 0, BOTH);
     assert_by_any(rt, alloc, &group, &interest, &mut steps)?;
+    assert_parts(rt, alloc, &group, &interest, &mut steps)?;
     assert_marked(rt, alloc, &group, &interest, &mut steps)?;
     assert_by_years(rt, alloc, &group, &mut steps)?;
     assert_even(rt, alloc, &group.even(), &interest, &mut steps)

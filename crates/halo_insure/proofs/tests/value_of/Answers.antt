@@ -11,21 +11,12 @@ compile-requires g c = (
   ),
 )
 
-pub value_at_start-requires : goal.value_at_start-requires
-value_at_start-requires g c = (
-  lit< tt,
-  (
-    lit< tt,
-    (
-      record {
-        valid = c.requires.valid;
-        lives = c.requires.lives;
-        sets = refl;
-        horizon_is = rw (sym c.tables.ensures.value, sym c.lives.ensures.value) c.horizon-horizon.ensures.years;
-        horizon_in = c.horizon-horizon.ensures.few;
-        form = c.in_ok-form.ensures.form 2 refl;
-      },
-      c.requires.insurance,
-    ),
-  ),
-)
+pub answer-requires-clause-task : goal.answer-requires-clause-task
+answer-requires-clause-task g c = record {
+  valid = c.requires.valid;
+  lives = c.requires.lives;
+  sets = refl;
+  horizon_is = rw (sym c.tables.ensures.value, sym c.lives.ensures.value) c.horizon-horizon.ensures.years;
+  horizon_in = c.horizon-horizon.ensures.few;
+  form = c.in_ok-form.ensures.form 2 refl;
+}

@@ -1,0 +1,124 @@
+// What falls on one event of an insurance.
+ghost use Rattle.std.specs.Prelude.{◌≡◌, ◌+◌, ◌<◌, ◌≤◌, false};
+ghost use Rattle.halo_interest.specs.declared.powers.TheConstants.{LAST_TIME};
+ghost use Rattle.halo_status.specs.declared.pay.Kind.TheVariants.{Insurance};
+ghost use Rattle.halo_sums.specs.Masks.{has_bit};
+ghost use Rattle.halo_life.specs.Lists.{nothing};
+ghost use Rattle.halo_model.specs.SetValue.{can_fall_on_life, can_fall_on_term};
+ghost use Rattle.halo_compile.specs.ValidTask.{IsTask};
+ghost use Rattle.halo_compile.specs.OfTask.{HaveSurvivorsAt, pay_of_task};
+ghost use Rattle.halo_insure.specs.Events.{AreEventsOf, events_of, worth_on};
+ghost use Rattle.halo_insure.specs.OfTask.{HoldDuesOn, insured_basis, products_of_insurance};
+ghost use Rattle.halo_insure.specs.Parts.{EnclosesEnd, EnclosesLeaving, EnclosesPartOfOne};
+
+use crate::events::Events;
+use crate::failing::{can_fall_on_term, failing_lives};
+use crate::pass::pass;
+use halo_compile::{Task, between, greatest_factor};
+use halo_interest::LAST_TIME;
+use halo_life::Work;
+use halo_num::{Ival, Steps};
+use halo_sums::has_bit;
+use std::sync::ledger::Ledger;
+
+/// What of the value of an insurance of 1 falls on the leaving of a life, at the start of the
+/// task's group with the lives alive that it says, by its rule for ties.
+///
+/// It is no wider than the count of the insurance, and from 0 to the most that it can be worth;
+/// where no payment can fall on that leaving it is exactly 0. It takes one pass over the years,
+/// which raises the counter as `insurance_all` does.
+pub fn on_life<const N: usize, const M: usize, L: Ledger>(
+    task: &Task<N, M>,
+    life: u8,
+    work: &mut Work<M>,
+    steps: &mut Steps<L>,
+) -> Ival
+    requires task { IsTask task.now }
+    requires insurance { task.now.pay.now.kind ≡ Insurance }
+    requires life { life < N }
+    ensures encloses { let group = task.now.group.now in
+        EnclosesLeaving (insured_basis task.now) (pay_of_task task.now)
+        group.start (has_bit group.alive) life result }
+    ensures none { can_fall_on_life (pay_of_task task.now) life ≡ false → result ≡ nothing }
+    ensures cost { steps.new ≤ steps.old + products_of_insurance task.now }
+{
+    // The proof sees here that there are few lives.
+    let _start = task.group.start();
+    if !has_bit(failing_lives(task.pay), life) {
+        return Ival::exact(0);
+    }
+    worth_on(task, Events::Leaving(life), work, steps)
+}
+
+/// What of the value of an insurance of 1 falls on the end of a term of `n` years: as `on_life`,
+/// and exactly 0 where no payment can fall on that end.
+pub fn on_term<const N: usize, const M: usize, L: Ledger>(
+    task: &Task<N, M>,
+    n: u16,
+    work: &mut Work<M>,
+    steps: &mut Steps<L>,
+) -> Ival
+    requires task { IsTask task.now }
+    requires insurance { task.now.pay.now.kind ≡ Insurance }
+    requires some { 1 ≤ n }
+    requires time { n ≤ LAST_TIME }
+    ensures encloses { let group = task.now.group.now in
+        EnclosesEnd (insured_basis task.now) (pay_of_task task.now)
+        group.start (has_bit group.alive) n result }
+    ensures none { can_fall_on_term (pay_of_task task.now) n ≡ false → result ≡ nothing }
+    ensures cost { steps.new ≤ steps.old + products_of_insurance task.now }
+{
+    // The proof sees here that there are few lives.
+    let _start = task.group.start();
+    if !can_fall_on_term(task.pay, n) {
+        return Ival::exact(0);
+    }
+    worth_on(task, Events::End(n), work, steps)
+}
+
+// What falls on some events, at the start of the task's group with the lives alive that it says.
+fn worth_on<const N: usize, const M: usize, L: Ledger>(
+    task: &Task<N, M>,
+    events: Events,
+    work: &mut Work<M>,
+    steps: &mut Steps<L>,
+) -> Ival
+    requires task { IsTask task.now }
+    requires insurance { task.now.pay.now.kind ≡ Insurance }
+    requires events { AreEventsOf N events }
+    ensures encloses { let group = task.now.group.now in
+        let b = insured_basis task.now in
+        let alive = has_bit group.alive in
+        EnclosesPartOfOne b (pay_of_task task.now) group.start alive
+        (worth_on events b (pay_of_task task.now) group.start alive) result }
+    ensures cost { steps.new ≤ steps.old + products_of_insurance task.now }
+{
+    pass(task, events, work, steps);
+    worth_at(task, events, task.group.start(), task.group.alive(), work)
+}
+
+// What falls on some events at time `t` with the lives of a set alive, each of which has a row at
+// its age then.
+fn worth_at<const N: usize, const M: usize>(
+    task: &Task<N, M>,
+    events: Events,
+    t: u16,
+    alive: u16,
+    work: &Work<M>,
+) -> Ival
+    requires task { IsTask task.now }
+    requires insurance { task.now.pay.now.kind ≡ Insurance }
+    requires events { AreEventsOf N events }
+    requires values { HoldDuesOn task.now (events_of events) t work.now }
+    requires alive { HaveSurvivorsAt task.now t alive }
+    ensures { let b = insured_basis task.now in
+        EnclosesPartOfOne b (pay_of_task task.now) t (has_bit alive)
+        (worth_on events b (pay_of_task task.now) t (has_bit alive)) result }
+{
+    // The proof sees here that the lives have rows, and that each year has a fraction.
+    let _start = task.group.start();
+    let _fractions = task.interest.fractions();
+    let total = work.total(alive & task.pay.body.lives());
+    let most = greatest_factor(task.pay.vary, task.horizon);
+    between(total, 0, most as u64)
+}
