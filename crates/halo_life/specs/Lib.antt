@@ -3,3 +3,4 @@ pub mod Total
 pub mod PlainGroup
 pub mod YearOfSets
 pub mod YearOfLives
+pub mod Complement

@@ -5,6 +5,7 @@
 //! that round outward.
 #![tactic(auto)]
 
+mod any_leaving;
 mod averaging;
 mod chances;
 mod group;
