@@ -39,7 +39,7 @@ use Rattle.halo_insure.proofs.Nobody.{end-with-nobody}
 use Rattle.halo_insure.proofs.OneSet.{nothing-due, year-more}
 
 -- a chance told in more parts
-chance-scaled : (n d w k : ℕ) (i : Ends) → EnclosesChance n d w i → EnclosesChance (k * n) (k * d) w i
+pub chance-scaled : (n d w k : ℕ) (i : Ends) → EnclosesChance n d w i → EnclosesChance (k * n) (k * d) w i
 chance-scaled n d w k i c = record {
   encloses = encloses_at i (pos n)
       (pos (k * n)) d (k * d) k c.encloses (ap pos (mul_comm k n)) (mul_comm k d);

@@ -16,3 +16,4 @@ pub mod Living
 pub mod WorthOn
 pub mod PartTotals
 pub mod Passes
+pub mod SomeLeave

@@ -10,6 +10,7 @@ mod due;
 mod events;
 mod failing;
 pub mod laws;
+mod leavings;
 mod one_year;
 mod parts;
 mod pass;

@@ -15,6 +15,7 @@ ghost use Rattle.halo_insure.specs.OfTask.{HoldDuesAt, HoldDuesOn};
 
 use crate::due::{YearPays, payment_in};
 use crate::failing::{can_fall_on_term, failing_lives};
+use crate::leavings::leavings;
 use crate::sets::{Year, clear, sets_back};
 use halo_compile::Task;
 use halo_life::Work;
@@ -88,8 +89,7 @@ pub(crate) fn carry_back<const N: usize, const M: usize, L: Ledger>(
     let _start = task.group.start();
     let named = task.pay.body.lives();
     task.group.survivals(k, named, work, steps);
-    task.group
-        .leavings(k, named, counted, task.pay.causes, work, steps);
+    leavings(task.group, k, named, counted, task.pay.causes, work, steps);
     let year = Year {
         discount: task.interest.year(k),
         pays: YearPays {

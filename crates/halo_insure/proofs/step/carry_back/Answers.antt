@@ -38,7 +38,7 @@ leavings-requires g c =
         lit< tt,
         (
           c.requires.task.sets,
-          (below, omega (arith, c.requires.time, c.requires.task.horizon_in)),
+          (below, (omega (arith, c.requires.time, c.requires.task.horizon_in), c.survivals.ensures.chances)),
         ),
       ),
     )
