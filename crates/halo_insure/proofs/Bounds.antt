@@ -1,20 +1,12 @@
 -- An insurance of 1 is worth from nothing to its greatest factor, where somebody of each life alive survives.
-use Rattle.std.proofs.Common.{◌≡◌, ℕ, ◌*◌, ◌<◌, ◌≤◌, arith, refl, ap, sym, ◌∙◌, length, Bool, ◌^◌, subst}
+use Rattle.std.proofs.Common.{◌≡◌, ℕ, ◌<◌, refl, ap, sym, ◌∙◌, length, ◌^◌, subst}
 use Rattle.std.proofs.Math.Nat.{mul-pos}
 use Rattle.halo_sums.specs.Masks.{has_bit}
-use Rattle.halo_num.specs.Ends.{Ends}
 use Rattle.halo_interest.specs.Rates.{IsInterest}
-use Rattle.halo_status.specs.Pay.{PlainPay}
 use Rattle.halo_status.specs.declared.pay.Kind.{Kind}
 use Rattle.halo_status.specs.declared.pay.Kind.TheVariants.{Insurance}
-use Rattle.halo_model.specs.Basis.{Basis}
-use Rattle.halo_model.specs.Chance.{IsValidInsurance}
 use Rattle.halo_model.specs.Counts.{Measures, greatest_factor, measures_of, most_worth}
-use Rattle.halo_model.specs.Horizon.{horizon}
-use Rattle.halo_model.specs.Life.{AreLives}
-use Rattle.halo_model.specs.PartLaws.{EndBy}
-use Rattle.halo_model.specs.Value.{denominator, numerator}
-use Rattle.halo_model.proofs.Bounded.{insurance-is-bounded}
+use Rattle.halo_model.specs.Value.{denominator}
 use Rattle.halo_model.proofs.Positive.{some-orders}
 use Rattle.halo_model.specs.SetValue.{all_events}
 use Rattle.halo_life.specs.Lists.{Lists}
@@ -28,7 +20,7 @@ use Rattle.halo_compile.specs.NamedSets.{IsNamedPart}
 use Rattle.halo_compile.specs.OfTask.{HaveSurvivorsAt, pay_of_task}
 use Rattle.halo_insure.specs.OfTask.{HoldDuesAt, insured_basis}
 use Rattle.halo_insure.specs.Total.{EnclosesInsurance, HoldDues}
-use Rattle.halo_insure.proofs.Tasks.{are-lives, end-by, lives-of-task, same-insurance, unit-valid}
+use Rattle.halo_insure.proofs.Tasks.{are-lives, end-by, lives-of-task, unit-valid}
 use Rattle.halo_insure.proofs.Total.{sets-enclose-value}
 
 pub some-denominator : {n m : ℕ} (task : Task n m) → IsGroup n task.group.now → IsInterest task.interest.now
@@ -43,43 +35,20 @@ pub most-is : (kind : Kind) → kind ≡ Insurance → (m : Measures) → most_w
 unfolding most_worth
 most-is kind e m = rw e refl
 
-pub bounded : (b : Basis) → AreLives b.lives
-    → EndBy b.last_time b.lives → (pay : PlainPay) → IsValidInsurance pay → pay.amount ≡ 1 → (T : ℕ) (S : ℕ → Bool)
-    → numerator b pay T S ≤ greatest_factor pay.vary (horizon b.lives pay.body) * denominator b T S
-bounded b rule end pay is one T S =
-    let once : pay.amount * greatest_factor pay.vary (horizon b.lives pay.body)
-    ≡ greatest_factor pay.vary (horizon b.lives pay.body) =
-    ap (λ (n : ℕ). n * greatest_factor pay.vary (horizon b.lives pay.body)) one ∙ omega arith in
-    subst
-    (λ (most : ℕ). numerator b pay T S ≤ most * denominator b T S) once (insurance-is-bounded b rule end pay is T S)
-
 module _ {n m : ℕ}
     (task : Task n m) (is : IsTask task) (group : IsGroup n task.group.now) (kind : task.pay.now.kind ≡ Insurance) where
   -- the total of what is due for all sets encloses the value
-  pub total-encloses : (t alive named : ℕ) → IsNamedPart (pay_of task.pay.now).body alive named
-      → (lists : Lists) (i : Ends) → HoldDuesAt task t lists → i.lo ≡ (total_of lists m named).lo
-      → i.hi ≡ (total_of lists m named).hi → EnclosesInsurance (insured_basis task) (pay_of_task task) t alive i
-  total-encloses t alive named are lists i held lo hi =
+  pub total-encloses : (t alive named : ℕ) → IsNamedPart (pay_of task.pay.now).body alive named → (lists : Lists)
+      → HoldDuesAt task t lists
+      → EnclosesInsurance (insured_basis task) (pay_of_task task) t alive (total_of lists m named)
+  total-encloses t alive named are lists held =
       let b = insured_basis task in
       let count = lives-of-task task group in
       let all = sets-enclose-value b (are-lives task group) (end-by task group)
       (pay_of_task task) (unit-valid task is kind) refl (rw (← is.horizon_is) is.horizon_in) t lists
       (subst (λ (k : ℕ). HoldDues b (pay_of_task task) all_events k t lists) (sym count) held) alive named are in
-      same-insurance b (pay_of_task task) t alive i (total_of lists m named) lo hi
-      (subst (λ (k : ℕ). EnclosesInsurance b (pay_of_task task) t alive (total_of lists k named))
-      (ap (λ (k : ℕ). 2 ^ k) count ∙ sym is.sets) all)
-
-  -- and the value is bounded
-  pub task-bounded : (t alive most : ℕ) → most ≡ greatest_factor task.pay.now.vary task.horizon → numerator
-      (insured_basis task) (pay_of_task task) t (has_bit alive)
-      ≤ most * denominator (insured_basis task) t (has_bit alive)
-  task-bounded t alive most e =
-      let same : greatest_factor task.pay.now.vary (horizon (insured_basis task).lives (pay_of_task task).body) ≡ most =
-      ap (greatest_factor task.pay.now.vary) (sym is.horizon_is) ∙ sym e in
-      subst (λ (k : ℕ). numerator (insured_basis task) (pay_of_task task) t (has_bit alive)
-      ≤ k * denominator (insured_basis task) t (has_bit alive)) same
-      (bounded (insured_basis task)
-      (are-lives task group) (end-by task group) (pay_of_task task) (unit-valid task is kind) refl t (has_bit alive))
+      subst (λ (k : ℕ). EnclosesInsurance b (pay_of_task task) t alive (total_of lists k named))
+      (ap (λ (k : ℕ). 2 ^ k) count ∙ sym is.sets) all
 
   pub most-of-task : (most : ℕ) → most ≡ greatest_factor task.pay.now.vary task.horizon
       → most ≡ most_worth task.pay.now.kind (measures_of (insured_basis task) (pay_of_task task))

@@ -4,17 +4,13 @@ use Rattle.std.proofs.lemmas.List.Elements.{All-get_or}
 use Rattle.halo_sums.specs.Masks.{bits}
 use Rattle.std.proofs.lemmas.Bool.{cases_lt}
 use Rattle.std.proofs.lemmas.Bool.Decides.{nat_tests}
-use Rattle.std.proofs.lemmas.Int.{ints}
-use Rattle.halo_num.specs.Ends.{Ends}
 use Rattle.std.specs.Prelude.{All}
 use Rattle.halo_table.specs.DecrementTable.{DecrementTable, TableFile, empty_table, last_age_of}
 use Rattle.halo_table.specs.Sound.{IsSound, IsSoundTable}
 use Rattle.halo_table.specs.declared.lives.Life.{Life}
-use Rattle.halo_model.specs.Basis.{Basis}
 use Rattle.halo_model.specs.PartLaws.{EndBy}
 use Rattle.halo_insure.specs.Dues.{coefficient_before}
-use Rattle.halo_insure.specs.Total.{EnclosesInsurance}
-use Rattle.halo_status.specs.Pay.{PlainPay, pay_of}
+use Rattle.halo_status.specs.Pay.{pay_of}
 use Rattle.halo_status.specs.declared.pay.Kind.TheVariants.{Insurance}
 use Rattle.halo_model.specs.Chance.{IsValidInsurance}
 use Rattle.halo_model.specs.Coefficient.{form}
@@ -89,14 +85,6 @@ lives-end file sound (x ∷ lives) = (table-ends file sound x.table x.age, lives
 -- the tables of all lives end by time 200
 pub end-by : {n m : ℕ} (task : Task n m) → IsGroup n task.group.now → EndBy 200 (insured_basis task).lives
 end-by task group = lives-end task.group.now.file group.sound task.group.now.lives
-
--- an interval with the same ends encloses the same
-pub same-insurance : (b : Basis) (pay : PlainPay) (T alive : ℕ) (i j : Ends)
-    → i.lo ≡ j.lo → i.hi ≡ j.hi → EnclosesInsurance b pay T alive j → EnclosesInsurance b pay T alive i
-same-insurance b pay T alive i j lo hi e = record {
-  encloses = record { low = rw lo e.encloses.low; high = rw hi e.encloses.high };
-  narrow = record { near = omega (arith, ints, lo, hi, e.narrow.near) };
-}
 
 -- the coefficients of the next time, and none where the form does not go on
 pub next-of-form : {n m : ℕ} (task : Task n m) (k time : ℕ) (goes : Bool) (p : List ℤ) → IsPolyOf

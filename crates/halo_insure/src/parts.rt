@@ -6,15 +6,16 @@ ghost use Rattle.halo_sums.specs.Masks.{has_bit};
 ghost use Rattle.halo_life.specs.Lists.{nothing};
 ghost use Rattle.halo_model.specs.SetValue.{can_fall_on_life, can_fall_on_term};
 ghost use Rattle.halo_compile.specs.ValidTask.{IsTask};
-ghost use Rattle.halo_compile.specs.OfTask.{HaveSurvivorsAt, pay_of_task};
-ghost use Rattle.halo_insure.specs.Events.{AreEventsOf, events_of, worth_on};
-ghost use Rattle.halo_insure.specs.OfTask.{HoldDuesOn, insured_basis, products_of_insurance};
+ghost use Rattle.halo_compile.specs.OfTask.{pay_of_task};
+ghost use Rattle.halo_insure.specs.Events.{AreEventsOf, worth_on};
+ghost use Rattle.halo_insure.specs.OfTask.{insured_basis, products_of_insurance};
 ghost use Rattle.halo_insure.specs.Parts.{EnclosesEnd, EnclosesLeaving, EnclosesPartOfOne};
 
 use crate::events::Events;
 use crate::failing::{can_fall_on_term, failing_lives};
 use crate::pass::pass;
-use halo_compile::{Task, between, greatest_factor};
+use crate::value::worth_at;
+use halo_compile::Task;
 use halo_interest::LAST_TIME;
 use halo_life::Work;
 use halo_num::{Ival, Steps};
@@ -95,30 +96,4 @@ fn worth_on<const N: usize, const M: usize, L: Ledger>(
 {
     pass(task, events, work, steps);
     worth_at(task, events, task.group.start(), task.group.alive(), work)
-}
-
-// What falls on some events at time `t` with the lives of a set alive, each of which has a row at
-// its age then.
-fn worth_at<const N: usize, const M: usize>(
-    task: &Task<N, M>,
-    events: Events,
-    t: u16,
-    alive: u16,
-    work: &Work<M>,
-) -> Ival
-    requires task { IsTask task.now }
-    requires insurance { task.now.pay.now.kind ≡ Insurance }
-    requires events { AreEventsOf N events }
-    requires values { HoldDuesOn task.now (events_of events) t work.now }
-    requires alive { HaveSurvivorsAt task.now t alive }
-    ensures { let b = insured_basis task.now in
-        EnclosesPartOfOne b (pay_of_task task.now) t (has_bit alive)
-        (worth_on events b (pay_of_task task.now) t (has_bit alive)) result }
-{
-    // The proof sees here that the lives have rows, and that each year has a fraction.
-    let _start = task.group.start();
-    let _fractions = task.interest.fractions();
-    let total = work.total(alive & task.pay.body.lives());
-    let most = greatest_factor(task.pay.vary, task.horizon);
-    between(total, 0, most as u64)
 }

@@ -1,12 +1,16 @@
-// The value of an insurance at a time, from the values of all sets of lives.
+// The value of an insurance at a time, and what of it falls on some events, from the values of all
+// sets of lives.
 ghost use Rattle.std.specs.Prelude.{◌≡◌};
 ghost use Rattle.halo_status.specs.declared.pay.Kind.TheVariants.{Insurance};
 ghost use Rattle.halo_sums.specs.Masks.{has_bit};
 ghost use Rattle.halo_model.specs.Enclosed.{EnclosesOne};
 ghost use Rattle.halo_compile.specs.ValidTask.{IsTask};
 ghost use Rattle.halo_compile.specs.OfTask.{HaveSurvivorsAt, pay_of_task};
-ghost use Rattle.halo_insure.specs.OfTask.{HoldDuesAt, insured_basis};
+ghost use Rattle.halo_insure.specs.Events.{AreEventsOf, events_of, worth_on};
+ghost use Rattle.halo_insure.specs.OfTask.{HoldDuesAt, HoldDuesOn, insured_basis};
+ghost use Rattle.halo_insure.specs.Parts.{EnclosesPartOfOne};
 
+use crate::events::Events;
 use halo_compile::{Task, between, greatest_factor};
 use halo_life::Work;
 use halo_num::Ival;
@@ -25,6 +29,26 @@ pub fn value_at<const N: usize, const M: usize>(
     requires values { HoldDuesAt task.now t work.now }
     requires alive { HaveSurvivorsAt task.now t alive }
     ensures { EnclosesOne (insured_basis task.now) (pay_of_task task.now) t (has_bit alive) result }
+{
+    worth_at(task, Events::Every, t, alive, work)
+}
+
+/// What falls on some events of the insurance at time `t`, in the same way.
+pub(crate) fn worth_at<const N: usize, const M: usize>(
+    task: &Task<N, M>,
+    events: Events,
+    t: u16,
+    alive: u16,
+    work: &Work<M>,
+) -> Ival
+    requires task { IsTask task.now }
+    requires insurance { task.now.pay.now.kind ≡ Insurance }
+    requires events { AreEventsOf N events }
+    requires values { HoldDuesOn task.now (events_of events) t work.now }
+    requires alive { HaveSurvivorsAt task.now t alive }
+    ensures { let b = insured_basis task.now in
+        EnclosesPartOfOne b (pay_of_task task.now) t (has_bit alive)
+        (worth_on events b (pay_of_task task.now) t (has_bit alive)) result }
 {
     // The proof sees here that the lives have rows, and that each year has a fraction.
     let _start = task.group.start();

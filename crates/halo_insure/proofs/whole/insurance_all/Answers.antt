@@ -1,5 +1,4 @@
 use Rattle.std.proofs.Common.{arith, refl}
-use Rattle.halo_life.specs.Total.{total_of}
 use Rattle.halo_model.specs.SetValue.{all_events}
 use Rattle.halo_compile.specs.OfTask.{pay_of_task}
 use Rattle.halo_compile.proofs.Tasks.{few-sets}
@@ -12,7 +11,7 @@ pub returns-clause-totals : goal.returns-clause-totals
 returns-clause-totals g c = λ alive named are.
     let task = c.args.task.now in
     total-encloses task c.requires.task c.start-start.ensures.group c.requires.insurance task.group.now.start alive
-    named are c.pass.new.work (total_of c.pass.new.work g.row.M named) c.pass.ensures.values refl refl
+    named are c.pass.new.work c.pass.ensures.values
 
 pub returns-clause-modest : goal.returns-clause-modest
 returns-clause-modest g c = λ set below named.

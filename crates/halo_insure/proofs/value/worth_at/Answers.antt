@@ -12,7 +12,7 @@ use Rattle.halo_insure.specs.OfTask.{insured_basis}
 use Rattle.halo_insure.proofs.Bounds.{most-of-task, some-denominator}
 use Rattle.halo_insure.proofs.PartTotals.{total-is}
 use Rattle.halo_insure.proofs.Small.{dues-modest}
-use Rattle.halo_insure.proofs.parts.worth_at.Goals as goal
+use Rattle.halo_insure.proofs.value.worth_at.Goals as goal
 
 pub total-total-requires : goal.total-total-requires
 total-total-requires g c =
