@@ -82,9 +82,11 @@ module _ {n m : ℕ} (task : Task n m) (is : IsTask task)
       let by_sets = worth-by-sets b (are-lives task group) (end-by task group)
       (omega arith) pay valid t events there-in-basis alive in
       let encloses = subst (λ (k : ℕ). Encloses (total_of lists k named) part (denominator b t (has_bit alive))) sets
-      (worth-enclosed b (are-lives task group) pay valid in_time (events_of events) t lists dues alive named are part by_sets) in
+      (worth-enclosed b (are-lives task group) pay valid in_time (events_of events) t lists dues alive named are
+      part by_sets) in
       let narrow = subst (λ (k : ℕ). HasWidth (total_of lists k named) (width_count (measures_of b pay))) sets
-      (total-within-count b (are-lives task group) pay valid in_time (events_of events) t lists dues alive named are refl) in
+      (total-within-count b (are-lives task group) pay valid in_time (events_of events) t lists dues alive named are
+      refl) in
       let up = part-number most e in
       let number = (rw up.is at encloses) in
       record {

@@ -51,7 +51,8 @@ enum By {
     Lapse,
 }
 
-// What is asked of an insurance: its value, year by year or in one call, or what falls on one event.
+// What is asked of an insurance: its value, year by year or in one call, or what falls on one
+// event.
 #[derive(Clone, Copy)]
 enum Asked {
     Years,
