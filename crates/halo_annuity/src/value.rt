@@ -1,4 +1,4 @@
-// The value of an annuity of 1 at a time, by the values of all sets of lives then.
+// The value of an annuity of 1 at a time, by the values of all sets of named lives then.
 ghost use Rattle.std.specs.Prelude.{◌≡◌, ◌≢◌, ◌+◌, ◌*◌, ◌^◌, ◌≤◌, ◌↔◌, ◌⊎◌, IsTrue, pos, ◌≤ℤ◌};
 ghost use Rattle.halo_num.specs.Ends.{fine};
 ghost use Rattle.halo_status.specs.ValidPay.{HasValidVary};

@@ -3,7 +3,8 @@
 //! For each set of lives the value is found as if just these lives were alive, with the
 //! coefficients of the insurance's form: a year back, what is due at the end of the year and what
 //! comes after are discounted together. One pass from the horizon back gives the values of all sets
-//! at each time, and the value for some lives alive is the sum over their sets.
+//! of the lives that a body names at each time, and the value for some lives alive is the sum over
+//! the sets within them.
 #![tactic(auto)]
 
 mod due;

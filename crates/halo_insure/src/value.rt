@@ -1,5 +1,5 @@
 // The value of an insurance at a time, and what of it falls on some events, from the values of all
-// sets of lives.
+// sets of named lives.
 ghost use Rattle.std.specs.Prelude.{◌≡◌};
 ghost use Rattle.halo_status.specs.declared.pay.Kind.TheVariants.{Insurance};
 ghost use Rattle.halo_sums.specs.Masks.{has_bit};

@@ -1,4 +1,4 @@
--- The values of all sets of lives at a time, and the value of a pay, whatever its kind.
+-- The values of all sets of named lives at a time, and the value of a pay, whatever its kind.
 use Rattle.std.specs.Prelude.{ℕ, Bool}
 use Rattle.halo_num.specs.Ends.{Ends}
 use Rattle.halo_status.specs.Pay.{pay_of}
@@ -11,7 +11,7 @@ use Rattle.halo_compile.specs.declared.task.Task.{Task}
 use Rattle.halo_annuity.specs.AtTime.{HoldAt}
 use Rattle.halo_insure.specs.OfTask.{HoldDuesAt}
 
--- the lists hold for each set of lives what a pay of some kind is worth at a time
+-- the lists hold for each set of named lives what a pay of some kind is worth at a time
 abbrev pub HoldByKind : {n m : ℕ} → Kind → Task n m → ℕ → Lists → Type 0
 HoldByKind Insurance task t lists = HoldDuesAt task t lists
 HoldByKind Immediate task t lists = HoldAt task t lists

@@ -14,8 +14,8 @@ use halo_num::{Ival, Steps};
 use halo_status::Kind;
 use std::sync::ledger::Ledger;
 
-/// The values of all sets at the horizon of the task, and at any later time: nothing is left to be
-/// paid.
+/// The values of all sets of named lives at the horizon of the task, and at any later time: nothing
+/// is left to be paid.
 pub fn at_horizon<const N: usize, const M: usize>(task: &Task<N, M>, work: &mut Work<M>)
     requires { IsTask task.now }
     ensures { (t : ℕ) → task.now.horizon ≤ t → HoldOf task.now t work.new }
@@ -27,7 +27,7 @@ pub fn at_horizon<const N: usize, const M: usize>(task: &Task<N, M>, work: &mut 
     }
 }
 
-/// The values of all sets at time `t`, by those at time t + 1.
+/// The values of all sets of named lives at time `t`, by those at time t + 1.
 pub fn year_back<const N: usize, const M: usize, L: Ledger>(
     task: &Task<N, M>,
     t: u16,
@@ -47,7 +47,8 @@ pub fn year_back<const N: usize, const M: usize, L: Ledger>(
 }
 
 /// The value of the pay at time `t`, with amount 1 and the lives of a set alive, by the values of
-/// all sets then. It is at least 1 where a level annuity-due without deferral pays at once.
+/// all sets of named lives then. It is at least 1 where a level annuity-due without deferral pays
+/// at once.
 pub fn value_at<const N: usize, const M: usize>(
     task: &Task<N, M>,
     t: u16,
