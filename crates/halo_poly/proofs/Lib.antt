@@ -8,3 +8,6 @@ pub mod Picked
 pub mod Values
 pub mod Counted
 pub mod Bounded
+pub mod Parts
+pub mod Walks
+pub mod PartPasses

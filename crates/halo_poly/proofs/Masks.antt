@@ -3,6 +3,7 @@ use Rattle.std.proofs.Common.{◌≡◌, ℕ, zero, suc, ◌+◌, ◌-◌, ◌*�
 use Rattle.std.proofs.Math.Nat.{pow-suc, pow-succ', div-div-eq-div-mul, pow-le-pow_right, div-eq_of_lt, add-div_right}
 use Rattle.std.proofs.Math.Pow.{pow-lt}
 use Rattle.std.proofs.lemmas.Nat.{pow_pos}
+use Rattle.std.proofs.lemmas.Nat.Bits.{bit_at-zero}
 use Rattle.std.proofs.lemmas.Bool.{cases_lt, false≢true}
 use Rattle.std.proofs.lemmas.Bool.Decides.{nat_tests}
 use Rattle.halo_sums.specs.Sets.{in_set}
@@ -93,3 +94,7 @@ few_sets m h = let room : 2 ^ h.lives ≤ 2 ^ 12 = pow-le-pow_right two_positive
 pub room_for_life : (m mask i : ℕ) → CountsSets m → 2 ^ i < m → mask < m → has_bit mask i ≡ false → mask + 2 ^ i < m
 room_for_life m mask i h l within e =
     rw h.is (has_bit-more h.lives mask i (omega (arith, h.is)) (exponent-lt i h.lives (omega (arith, h.is))) e)
+
+-- the mask of the empty set has no bit
+pub no_bit : (i : ℕ) → has_bit 0 i ≡ false
+no_bit i = rw (bit_at-zero i) refl

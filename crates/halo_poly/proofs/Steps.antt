@@ -1,6 +1,7 @@
 -- A pass goes over the masks in their order, and writes the places one by one.
-use Rattle.std.proofs.Common.{◌≡◌, ◌≢◌, ℕ, ◌+◌, ◌-◌, ◌^◌, ◌<◌, ◌≤◌, arith, refl, sym, ◌∙◌, ⊎_elim, List, length, length-set, set, Bool, true, false, cond, ℤ, pos}
+use Rattle.std.proofs.Common.{◌≡◌, ◌≢◌, ℕ, ◌+◌, ◌-◌, ◌^◌, ◌<◌, ◌≤◌, arith, refl, sym, ◌∙◌, ⊎_elim, List, length, length-set, set, Bool, true, false, cond, ℤ, pos, ◌-ℤ◌, SFits, w64, to_z, of_z}
 use Rattle.std.proofs.lemmas.Bool.{cases_lt}
+use Rattle.std.proofs.lemmas.Int.{ints, to_z-of_z}
 use Rattle.std.proofs.lemmas.Nat.{pow_pos}
 use Rattle.std.proofs.lemmas.List.{get_or-set_same, get_or-set_other, get_or_past}
 use Rattle.halo_sums.specs.Masks.{has_bit}
@@ -58,3 +59,24 @@ all_passed passed old now mask h all none k = ⊎_elim
     (λ (q : k < mask). h.done k q)
     (λ (q : mask ≤ k). get_or_past now k (pos 0) (omega (arith, h.same)) ∙ sym (none k (omega arith)))
     (cases_lt k mask)
+
+-- what a pass that takes away computes, from numbers that fit
+pub difference_computed : (passed : ℕ → ℤ) (old now : List ℤ) (mask life : ℕ) (w : ℤ)
+    → SFits w64 (coefficient_at now mask) → SFits w64 w → w ≡ without now life mask → HasPassed passed old now mask
+    → ((k : ℕ) → has_bit k life ≡ false → passed k ≡ coefficient_at old k)
+    → to_z w64 (of_z w64 (coefficient_at now mask)) -ℤ to_z w64 (of_z w64 w)
+    ≡ coefficient_at old mask -ℤ without old life mask
+difference_computed passed old now mask life w f g e h stays =
+    rw (
+      to_z-of_z w64 (coefficient_at now mask) f,
+      to_z-of_z w64 w g,
+      e,
+      h.rest mask (omega arith),
+      without-passed passed old now mask life h stays,
+    )
+    refl
+
+-- a set without the life has nothing to be taken
+pub nothing_taken : (old : List ℤ) (life k : ℕ) → has_bit k life ≡ false
+    → coefficient_at old k -ℤ without old life k ≡ coefficient_at old k
+nothing_taken old life k e = omega (arith, ints, without-none old life k e)

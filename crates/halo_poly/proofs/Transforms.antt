@@ -37,8 +37,8 @@ without-set values life s h = rw (has_bit-mask_of s life h) (go (in_set s life) 
     go false e = refl
     go true e = ap (coefficient_at values) (omega (arith, mask_of-without s life e))
 
-without-held : (n : ℕ) (f : List Bool → ℤ) (values : List ℤ) (life : ℕ) (s : List Bool) → Holds n f values → life < n
-    → length s ≡ n → without values life (mask_of s) ≡ cond (in_set s life) (f (set s life false)) (pos 0)
+pub without-held : (n : ℕ) (f : List Bool → ℤ) (values : List ℤ) (life : ℕ) (s : List Bool) → Holds n f values
+    → life < n → length s ≡ n → without values life (mask_of s) ≡ cond (in_set s life) (f (set s life false)) (pos 0)
 without-held n f values life s h within e =
     without-set values life s (omega arith)
     ∙ ap (λ z. cond (in_set s life) z (pos 0)) (h.each (set s life false) (simp length-set e))
@@ -135,6 +135,14 @@ bounded_fits k z h b =
     let p : 2 ^ k ≤ 2 ^ 12 = pow-le-pow_right (omega arith) h in
     fits_signed_from_abs w64 z (omega (arith, mul-le (2 ^ k) (10 ^ 15) (2 ^ 12) (10 ^ 15) p (omega arith)))
 
+-- and so does what there is after some of the passes that take away
+pub passes_fit : (n k : ℕ) (f : List Bool → ℤ) → ((s : List Bool) → length s ≡ n → IsSmall (coefficient f s))
+    → k ≤ n → n ≤ 12 → (s : List Bool) → length s ≡ n → FitsSigned w64 (difference_passes k f s)
+passes_fit n k f small within few s l =
+    let ends : (v : List Bool) → length v ≡ n → IsSmall (difference_passes n f v) =
+    λ v q. rw (sym (ap (λ j. difference_passes j f v) q) ∙ difference_passes-all v f) (small v q) in
+    bounded_fits (n - k) _ (omega arith) (differences_bounded n f (10 ^ 15) ends (n - k) k (omega arith) s l)
+
 -- what a pass makes of a place fits
 pub sum_fits : (n : ℕ) (f : List Bool → ℤ) (values : List ℤ) (life mask : ℕ) → Holds n (sum_passes life f) values
     → ((u : List Bool) → IsSmall (f u)) → life < n → n ≤ 12 → mask < length values
@@ -164,10 +172,7 @@ difference_fits n f values life mask h small within few m =
     (without-held n (difference_passes life f) values life s h within l) in
     let whole : coefficient_at values mask -ℤ without values life mask ≡ difference_passes (suc life) f s =
     ap (λ m. coefficient_at values m -ℤ without values life m) (sym e) ∙ held in
-    let ends : (v : List Bool) → length v ≡ n → IsSmall (difference_passes n f v) =
-    λ v q. rw (sym (ap (λ k. difference_passes k f v) q) ∙ difference_passes-all v f) (small v q) in
-    rw whole (bounded_fits (n - suc life) _ (omega arith)
-    (differences_bounded n f (10 ^ 15) ends (n - suc life) (suc life) (omega arith) s l))
+    rw whole (passes_fit n (suc life) f small within few s l)
 
 -- a value fits where the coefficients are small
 pub value_fits : (n : ℕ) (f : List Bool → ℤ) → n ≤ 12 → ((s : List Bool) → length s ≡ n → IsSmall (coefficient f s))

@@ -1,7 +1,7 @@
 -- The masks that lie within the mask of a set are the masks of its subsets.
 use Rattle.std.proofs.Common.{◌≡◌, ℕ, zero, suc, ◌+◌, ◌*◌, ◌/◌, ◌%◌, ◌^◌, ◌<◌, arith, refl, ap, sym, ◌∙◌, List, [], ◌∷◌, length, Bool, true, false, cond, not, ◌&&◌, ◌||◌, nat_eq, bit_and, ℤ, pos}
 use Rattle.std.proofs.Math.Nat.{pow-suc}
-use Rattle.std.proofs.lemmas.Nat.{and_block, and_le_l}
+use Rattle.std.proofs.lemmas.Nat.{and_le_l}
 use Rattle.std.proofs.lemmas.Int.{ints}
 use Rattle.std.proofs.lemmas.Bool.Decides.{nat_tests}
 use Rattle.halo_sums.specs.Sums.{int_sum_over, numbers_from}
@@ -10,6 +10,7 @@ use Rattle.halo_sums.specs.Masks.{bits}
 use Rattle.halo_sums.proofs.IntSums.{int_sum_over-none}
 use Rattle.halo_sums.proofs.Masks.{int_sum_over-masks}
 use Rattle.halo_sums.proofs.Numbers.{int_sum_over-numbers_ext}
+use Rattle.halo_sums.proofs.Within.{lowest-apart}
 use Rattle.halo_sums.proofs.Sets.{int_sum_over-sets, int_sum_over-subsets_with, int_sum_over-subsets_without}
 use Rattle.halo_poly.specs.Poly.{coefficient_at, coefficient_of, value_on}
 use Rattle.halo_poly.specs.Transform.{within}
@@ -42,13 +43,6 @@ sum_is_within (false ∷ s) f = omega (
   int_sum_over-none (sets (length s)),
 )
 
--- the lowest bits of two masks, and the rest
-lowest_apart : (a b : ℕ) → bit_and a b ≡ bit_and (a / 2) (b / 2) * 2 + bit_and (a % 2) (b % 2)
-lowest_apart a b =
-    let p : a / 2 * 2 ^ 1 + a % 2 ≡ a = omega arith in
-    let q : b / 2 * 2 ^ 1 + b % 2 ≡ b = omega arith in
-    rw (p, q) at (and_block 1 (a / 2) (b / 2) (a % 2) (b % 2) (omega arith) (omega arith))
-
 low_bits : (x y : ℕ) → x < 2 → y < 2 → nat_eq (bit_and x y) x ≡ (not (nat_eq x 1) || nat_eq y 1)
 low_bits zero zero h k = refl
 low_bits zero (suc zero) h k = refl
@@ -67,7 +61,7 @@ bits_within (suc n) mask set h =
     let high : ℕ = bit_and (mask / 2) (set / 2) in
     let low : ℕ = bit_and (mask % 2) (set % 2) in
     let whole : mask ≡ mask / 2 * 2 + mask % 2 = omega arith in
-    ap (λ x. nat_eq x mask) (lowest_apart mask set)
+    ap (λ x. nat_eq x mask) (lowest-apart mask set)
     ∙ ap (nat_eq (high * 2 + low)) whole
     ∙ both_parts high low (mask / 2) (mask % 2) (omega (arith, and_le_l (mask % 2) (set % 2))) (omega arith)
     ∙ ap (λ b. b && nat_eq high (mask / 2)) (low_bits (mask % 2) (set % 2) (omega arith) (omega arith))

@@ -1,5 +1,5 @@
 -- Polynomials of lives as lists of coefficients, and their values on sets of lives.
-use Rattle.std.specs.Prelude.{◌≡◌, ℕ, ◌≤◌, ◌^◌, Bool, false, List, get_or, length, map, ℤ, pos, unsigned_abs}
+use Rattle.std.specs.Prelude.{◌≡◌, ℕ, ◌≤◌, ◌^◌, Bool, false, List, bit_and, get_or, length, map, ℤ, pos, unsigned_abs}
 use Rattle.halo_sums.specs.Sums.{int_sum_over}
 use Rattle.halo_sums.specs.Sets.{subsets}
 use Rattle.halo_sums.specs.SetMasks.{CountsSets, mask_of}
@@ -39,6 +39,10 @@ values_on ps s = map (λ p. value_on p s) ps
 -- whether the mask of a set is marked
 abbrev pub is_marked : List Bool → List Bool → Bool
 is_marked marked s = get_or marked (mask_of s) false
+
+-- whether the mask of the lives that a set has in common with some lives is marked
+abbrev pub is_marked_within : List Bool → ℕ → List Bool → Bool
+is_marked_within marked named s = get_or marked (bit_and (mask_of s) named) false
 
 -- the count at the mask of a set
 abbrev pub count_at : List ℕ → List Bool → ℕ

@@ -3,12 +3,14 @@ ghost use Rattle.std.specs.Prelude.{◌≡◌, ℕ, ◌+◌, ◌*◌, ◌^◌, �
 ghost use Rattle.std.specs.Int.{w64};
 ghost use Rattle.halo_sums.specs.Sums.{indicator, int_sum_over, numbers_from, sum_over};
 ghost use Rattle.halo_sums.specs.Masks.{has_bit};
+ghost use Rattle.halo_sums.specs.Within.{is_within};
 ghost use Rattle.halo_poly.specs.Poly.{IsSmall, coefficient_at};
 ghost use Rattle.halo_poly.specs.Symmetric.{is_one};
 ghost use Rattle.halo_poly.specs.Transform.{with_life, within};
 
 use crate::transform::has_bit;
 use crate::{MOST_LIVES, MOST_SETS};
+use halo_sums::next_within;
 
 // Adds the other numbers, each to the one at its place.
 pub(crate) fn add_each(values: &mut [i64], others: &[i64])
@@ -60,6 +62,23 @@ pub(crate) fn mark_each(values: &mut [i64], marked: &[bool])
 {
     for k in 0..values.len() {
         values[k] = i64::from(marked[k]);
+    }
+}
+
+// Writes at each set within `named` 1 where it is marked and else 0; leaves the others as they are.
+pub(crate) fn mark_within(values: &mut [i64], marked: &[bool], named: u16)
+    requires length { length values.old ≡ length marked.now }
+    requires named { named < length values.old }
+    ensures length { length values.new ≡ length values.old }
+    ensures marks { (set : ℕ) → coefficient_at values.new set
+        ≡ cond (is_within set named) (indicator (get_or marked.now set false))
+        (coefficient_at values.old set) }
+{
+    values[0] = i64::from(marked[0]);
+    let mut set = 0;
+    while set != named {
+        set = next_within(set, named);
+        values[set as usize] = i64::from(marked[set as usize]);
     }
 }
 

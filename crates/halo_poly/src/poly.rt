@@ -6,11 +6,13 @@ ghost use Rattle.halo_sums.specs.Sets.{in_set};
 ghost use Rattle.halo_sums.specs.Sums.{indicator, sum_over};
 ghost use Rattle.halo_sums.specs.SetMasks.{CountsSets};
 ghost use Rattle.halo_poly.specs.Symmetric.{is_one};
-ghost use Rattle.halo_poly.specs.Poly.{EachOfSets, IsPoly, IsSmall, coefficient_at, coefficient_of, count_at, is_marked, value_on};
+ghost use Rattle.halo_poly.specs.Poly.{EachOfSets, IsPoly, IsSmall, coefficient_at, coefficient_of, count_at, is_marked, is_marked_within, value_on};
 
 use crate::Memory;
 use crate::entries::{add_each, drop_each, sum_sizes, sum_within, take_each};
-use crate::transform::{count_values, moebius_of_counts, moebius_of_marks, multiply};
+use crate::transform::{
+    count_values, moebius_of_counts, moebius_of_marks, moebius_of_marks_within, multiply,
+};
 use std::alloc::Global;
 use std::marker::Model;
 
@@ -172,6 +174,24 @@ impl<const M: usize> Poly<M> {
     {
         let mut poly = Self::zero(alloc)?;
         moebius_of_marks(&mut poly.coefficients, marked, Self::lives());
+        Ok(poly)
+    }
+
+    /// The polynomial of a status that depends only on the lives of `named`: its value is 1 on each
+    /// set of lives whose part within `named` is marked, and 0 on the others. It reads the marks of
+    /// the sets within `named` alone, and only these have coefficients.
+    pub fn of_sets_within(alloc: Global, marked: &[bool], named: u16) -> Result<Poly<M>, Memory>
+        requires sets { CountsSets M }
+        requires length { length marked.now ≡ M }
+        requires named { named < M }
+        ensures full { IfOk result (λ poly. length poly ≡ M) }
+        ensures coefficients { IfOk result (λ poly. EachOfSets M (λ s. coefficient_of poly s
+            ≡ coefficient (λ u. indicator (is_marked_within marked.now named u)) s)) }
+        ensures values { IfOk result (λ poly. EachOfSets M (λ s.
+            value_on poly s ≡ indicator (is_marked_within marked.now named s))) }
+    {
+        let mut poly = Self::zero(alloc)?;
+        moebius_of_marks_within(&mut poly.coefficients, marked, named, Self::lives());
         Ok(poly)
     }
 

@@ -42,6 +42,12 @@ fn last_of_two(alloc: Global) -> Result<Poly<8>, Memory> {
     Poly::of_sets(alloc, &[false, true, true, true, false, true, true, true])
 }
 
+// The same, told by the sets of these two lives alone.
+fn last_of_two_within(alloc: Global) -> Result<Poly<8>, Memory> {
+    let marked = [false, true, true, true, false, false, false, false];
+    Poly::of_sets_within(alloc, &marked, 3)
+}
+
 // The polynomial that is 1 on every set of two lives, and that of one of the lives.
 fn one(alloc: Global) -> Result<Poly<4>, Memory>
     ensures { IfOk result (λ poly. poly ≡ pos 1 ∷ pos 0 ∷ pos 0 ∷ pos 0 ∷ []) }
@@ -139,4 +145,13 @@ fn two_of_three_lives(rt: HostRuntime) -> Result<(), Fail> {
     check_three(&rt, &part, [0, 1, 1, -1, 0, 0, 0, 0], "bar(x:y)")?;
     two.drop_life(2, &mut part);
     check_three(&rt, &part, [0, 1, 1, -2, 0, 0, 0, 0], "part with z")
+}
+
+#[test]
+fn last_of_two_of_three_lives(rt: HostRuntime) -> Result<(), Fail> {
+    let poly = last_of_two_within(rt.alloc())?;
+    check_three(&rt, &poly, [0, 1, 1, -1, 0, 0, 0, 0], "bar(x:y)")?;
+    assert_eq!(rt; poly.value_on(4), 0, "z");
+    assert_eq!(rt; poly.value_on(6), 1, "y and z");
+    Ok(())
 }

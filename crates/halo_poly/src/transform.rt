@@ -1,17 +1,19 @@
 // The zeta and the Moebius transform over sets of lives: from coefficients to the values on all
 // sets, and back. Each goes over all sets once for each life.
-ghost use Rattle.std.specs.Prelude.{◌≡◌, ℕ, ◌+◌, ◌^◌, ◌<◌, ◌≤◌, Bool, false, cond, List, get_or, length, pos, ◌+ℤ◌, ◌-ℤ◌, ◌*ℤ◌, FitsSigned};
+ghost use Rattle.std.specs.Prelude.{◌≡◌, ℕ, ◌+◌, ◌^◌, ◌<◌, ◌≤◌, Bool, true, false, cond, List, get_or, length, pos, ◌+ℤ◌, ◌-ℤ◌, ◌*ℤ◌, FitsSigned};
 ghost use Rattle.std.specs.Int.{w64};
 ghost use Rattle.halo_sums.specs.Masks.{has_bit};
 ghost use Rattle.halo_sums.specs.Sums.{indicator};
 ghost use Rattle.halo_sums.specs.Coefficients.{coefficient};
 ghost use Rattle.halo_sums.specs.SetMasks.{mask_of};
+ghost use Rattle.halo_sums.specs.Within.{is_within};
 ghost use Rattle.halo_poly.specs.Symmetric.{is_one};
-ghost use Rattle.halo_poly.specs.Poly.{AreCoefficients, EachSetOf, IsSmall, coefficient_at, coefficient_of, count_at, is_marked, value_on};
+ghost use Rattle.halo_poly.specs.Poly.{AreCoefficients, EachSetOf, IsSmall, coefficient_at, coefficient_of, count_at, is_marked, is_marked_within, value_on};
 ghost use Rattle.halo_poly.specs.Transform.{without};
 
-use crate::entries::{count_ones, mark_each, multiply_each, write_each};
+use crate::entries::{count_ones, mark_each, mark_within, multiply_each, write_each};
 use crate::{MOST_LIVES, MOST_SETS};
+use halo_sums::next_within;
 
 // Whether a life is in the set of a mask.
 pub(crate) fn has_bit(mask: usize, life: u8) -> bool
@@ -64,6 +66,26 @@ fn take_without(values: &mut [i64], life: u8)
     }
 }
 
+// Takes from each set within `named` and with a life what there is at the set without it.
+fn take_within(values: &mut [i64], life: u8, named: u16)
+    requires few { life < MOST_LIVES }
+    requires named { named < length values.old }
+    requires fits { (mask : ℕ) → is_within mask named ≡ true →
+        FitsSigned w64 (coefficient_at values.old mask -ℤ without values.old life mask) }
+    ensures length { length values.new ≡ length values.old }
+    ensures differences { (mask : ℕ) → coefficient_at values.new mask
+        ≡ cond (is_within mask named)
+        (coefficient_at values.old mask -ℤ without values.old life mask)
+        (coefficient_at values.old mask) }
+{
+    // At the empty set there is nothing to take.
+    let mut set = 0;
+    while set != named {
+        set = next_within(set, named);
+        values[set as usize] -= without(values, set as usize, life);
+    }
+}
+
 // From the coefficients of all sets of lives to their values: the sums over the subsets.
 pub(crate) fn zeta(values: &mut [i64], lives: u8)
     requires few { lives ≤ MOST_LIVES }
@@ -88,6 +110,25 @@ pub(crate) fn moebius(values: &mut [i64], lives: u8)
 {
     for life in 0..lives {
         take_without(values, life);
+    }
+}
+
+// From the values on the sets within `named` to their coefficients, which have to be small; leaves
+// the other sets as they are. It goes over the sets within `named` once for each life of it.
+fn moebius_within(values: &mut [i64], named: u16, lives: u8)
+    requires few { lives ≤ MOST_LIVES }
+    requires full { length values.old ≡ 2 ^ lives }
+    requires named { named < length values.old }
+    requires small { EachSetOf lives (λ s. IsSmall (coefficient (coefficient_of values.old) s)) }
+    ensures length { length values.new ≡ length values.old }
+    ensures coefficients { EachSetOf lives (λ s. coefficient_of values.new s
+        ≡ cond (is_within (mask_of s) named)
+        (coefficient (coefficient_of values.old) s) (coefficient_of values.old s)) }
+{
+    for life in 0..lives {
+        if has_bit(named as usize, life) {
+            take_within(values, life, named);
+        }
     }
 }
 
@@ -145,6 +186,23 @@ pub(crate) fn moebius_of_marks(values: &mut [i64], marked: &[bool], lives: u8)
 {
     mark_each(values, marked);
     moebius(values, lives);
+}
+
+// The coefficients of the polynomial whose value on each set is 1 where its part within `named` is
+// marked, and else 0.
+pub(crate) fn moebius_of_marks_within(values: &mut [i64], marked: &[bool], named: u16, lives: u8)
+    requires few { lives ≤ MOST_LIVES }
+    requires full { length values.old ≡ 2 ^ lives }
+    requires none { (set : ℕ) → coefficient_at values.old set ≡ pos 0 }
+    requires length { length marked.now ≡ length values.old }
+    requires named { named < length values.old }
+    ensures length { length values.new ≡ length values.old }
+    ensures coefficients { EachSetOf lives (λ s. coefficient_of values.new s
+        ≡ coefficient (λ u. indicator (is_marked_within marked.now named u)) s) }
+    ensures small { EachSetOf lives (λ s. IsSmall (coefficient_of values.new s)) }
+{
+    mark_within(values, marked, named);
+    moebius_within(values, named, lives);
 }
 
 // The coefficients of the polynomial whose value on each set is the number in a row at its count.

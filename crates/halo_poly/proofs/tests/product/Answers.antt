@@ -1,5 +1,5 @@
 -- The coefficients of a product of two lives are those of a test, and so small.
-use Rattle.std.proofs.Common.{◌≡◌, ℕ, ◌^◌, ◌<◌, ◌≤◌, arith, refl, ap, ◌∙◌, rules, List, [], ◌∷◌, length, Bool, true, false, ◌&&◌, ℤ, pos, ◌*ℤ◌}
+use Rattle.std.proofs.Common.{◌≡◌, ◌<◌, arith, refl, ap, ◌∙◌, rules, List, [], ◌∷◌, Bool, true, false, ◌&&◌, ℤ, pos, ◌*ℤ◌}
 use Rattle.halo_sums.specs.Sums.{indicator}
 use Rattle.halo_sums.specs.Sets.{in_set}
 use Rattle.halo_sums.specs.Coefficients.{coefficient}

@@ -1,5 +1,5 @@
 -- Three lives have eight sets, and each is a status.
-use Rattle.std.proofs.Common.{arith, refl, rules, ap, ◌∙◌, length}
+use Rattle.std.proofs.Common.{arith, refl, rules, ap, length}
 use Rattle.halo_poly.proofs.tests.sums_of_three.Goals as goal
 
 pub symmetric-requires : goal.symmetric-requires

@@ -1,5 +1,5 @@
 -- Three lives have eight sets, and each is a status.
-use Rattle.std.proofs.Common.{◌≡◌, arith, refl, ap, rules, length}
+use Rattle.std.proofs.Common.{arith, refl, ap, rules, length}
 use Rattle.halo_poly.proofs.tests.two_of_three.Goals as goal
 
 pub exactly-requires : goal.exactly-requires
