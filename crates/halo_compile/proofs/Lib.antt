@@ -1,8 +1,9 @@
 pub mod Members
 pub mod SetLists
+pub mod Agreeing
+pub mod Marking
 pub mod Unchanged
 pub mod Changes
-pub mod Marked
 pub mod Runs
 pub mod Built
 pub mod Weights

@@ -1,5 +1,5 @@
 // On which sets of lives a pay exists, 64 sets at a time.
-ghost use Rattle.std.specs.Prelude.{◌≡◌, ◌≢◌, ◌/◌, ◌%◌, ◌^◌, ◌<◌, ◌≤◌, false, get_or, length};
+ghost use Rattle.std.specs.Prelude.{◌≡◌, ◌/◌, ◌%◌, ◌<◌, ◌↔◌, IsTrue, false, get_or, length};
 ghost use Rattle.halo_sums.specs.Masks.{has_bit};
 ghost use Rattle.halo_status.specs.Blocks.{IsInBlock};
 ghost use Rattle.halo_status.specs.Exists.{each_exists};
@@ -9,11 +9,11 @@ ghost use Rattle.halo_status.specs.View.{is_on};
 ghost use Rattle.halo_model.specs.Coefficient.{view_of, waits_at_rank};
 ghost use Rattle.halo_compile.specs.Marks.{MarksBlock, MarksExistence};
 
-use halo_poly::MOST_SETS;
 use halo_status::{Kind, Mark, Members, Pay, Status, View, exactly_in_block};
+use halo_sums::next_within;
 
 // The sets of a block, one for each bit of a number.
-const BLOCK: usize = 64;
+const BLOCK: u16 = 64;
 
 // At which end of the years a kind of pay looks at its terms.
 pub(crate) fn view_of(kind: Kind) -> View
@@ -69,35 +69,60 @@ fn exists_by_mark(pay: &Pay, block: u16, t: u16) -> u64
     }
 }
 
-// On which sets of the block of a set a pay exists, given what there was for the set before it.
-fn marks_at(pay: &Pay, set: usize, before: u64, t: u16) -> u64
-    requires few { set < MOST_SETS }
-    requires before { set % BLOCK ≢ 0 → MarksBlock (pay_of pay.now) t (set / BLOCK) before }
+// On which sets of the block of a set a pay exists, given what there was for another set.
+fn marks_at(pay: &Pay, set: u16, other: u16, marks: u64, t: u16) -> u64
+    requires { MarksBlock (pay_of pay.now) t (other / BLOCK) marks }
     ensures { MarksBlock (pay_of pay.now) t (set / BLOCK) result }
 {
-    if set % BLOCK == 0 {
-        exists_by_mark(pay, (set / BLOCK) as u16, t)
+    let block = set / BLOCK;
+    if block == other / BLOCK {
+        marks
     } else {
-        before
+        exists_by_mark(pay, block, t)
     }
 }
 
 // Whether a set is marked in its block.
-fn is_marked(marks: u64, set: usize) -> bool
+fn is_marked(marks: u64, set: u16) -> bool
     ensures { result ≡ has_bit marks (set % BLOCK) }
 {
     marks >> (set % BLOCK) & 1 == 1
 }
 
-// Marks the sets of lives on which a pay exists at a time.
-pub(crate) fn mark_existence(marked: &mut [bool], pay: &Pay, t: u16)
-    requires { length marked.old ≤ MOST_SETS }
+// Marks those sets within `named` on which a pay exists at a time, and unmarks the others of them.
+pub(crate) fn mark_existence(marked: &mut [bool], pay: &Pay, t: u16, named: u16)
+    requires { named < length marked.old }
     ensures length { length marked.new ≡ length marked.old }
-    ensures marks { MarksExistence (pay_of pay.now) t marked.new }
+    ensures marks { MarksExistence (pay_of pay.now) t named marked.new }
 {
-    let mut marks = 0;
-    for set in 0..marked.len() {
-        marks = marks_at(pay, set, marks, t);
-        marked[set] = is_marked(marks, set);
+    let mut marks = exists_by_mark(pay, 0, t);
+    marked[0] = is_marked(marks, 0);
+    let mut set = 0;
+    while set != named {
+        let next = next_within(set, named);
+        marks = marks_at(pay, next, set, marks, t);
+        marked[next as usize] = is_marked(marks, next);
+        set = next;
     }
+}
+
+// Whether a pay exists at a time, of the sets within `named`, on those that are marked.
+pub(crate) fn exists_as_marked(marked: &[bool], pay: &Pay, t: u16, named: u16) -> bool
+    requires { named < length marked.now }
+    ensures { IsTrue result ↔ MarksExistence (pay_of pay.now) t named marked.now }
+{
+    let mut marks = exists_by_mark(pay, 0, t);
+    if marked[0] != is_marked(marks, 0) {
+        return false;
+    }
+    let mut set = 0;
+    while set != named {
+        let next = next_within(set, named);
+        marks = marks_at(pay, next, set, marks, t);
+        if marked[next as usize] != is_marked(marks, next) {
+            return false;
+        }
+        set = next;
+    }
+    true
 }

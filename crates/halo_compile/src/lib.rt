@@ -9,6 +9,7 @@
 mod bounds;
 mod existence;
 mod form;
+mod naming;
 mod segments;
 pub mod task;
 #[cfg(test)]

@@ -95,6 +95,18 @@ fn the_second_death_of_two(rt: HostRuntime) -> Result<(), Fail> {
 }
 
 #[test]
+fn a_life_that_is_not_named(rt: HostRuntime) -> Result<(), Fail> {
+    let alloc = rt.alloc();
+    let one = Status::Last(pair(alloc, Status::Life(0), Status::Life(2))?);
+    let due = pay_on(Kind::Due, one, None);
+    check(&rt, alloc, &due, &[(0, 2, [0, 1, 0, 0, 1, -1, 0, 0])])?;
+    let both = Status::Joint(pair(alloc, Status::Life(1), Status::Life(2))?);
+    let mark = Mark { member: 1, rank: 2 };
+    let pay = pay_on(Kind::Insurance, both, Some(mark));
+    check(&rt, alloc, &pay, &[(0, 2, [0, 0, 0, 0, 1, 0, -1, 0])])
+}
+
+#[test]
 fn factors_of_ten_years(rt: HostRuntime) -> Result<(), Fail> {
     assert_eq!(rt; greatest_factor(Vary::Level, 10), 1, "level");
     assert_eq!(rt; greatest_factor(Vary::Increasing, 10), 11, "increasing");

@@ -1,16 +1,14 @@
 -- Each turn adds a segment, from the first time that is left up to the next change.
-use Rattle.std.proofs.Common.{◌≡◌, ℕ, suc, ◌+◌, ◌-◌, ◌^◌, arith, refl, ap, ◌∙◌, List, ◌++◌, length, map, take, drop, get_or, Bool, false, ℤ}
+use Rattle.std.proofs.Common.{◌≡◌, ℕ, suc, ◌+◌, ◌-◌, ◌^◌, arith, refl, ap, ◌∙◌, List, ◌++◌, length, map, take, drop, Bool, ℤ}
 use Rattle.std.proofs.Math.Seq.{take-append_seam}
 use Rattle.halo_sums.specs.Sums.{indicator, numbers_from, sum_over}
 use Rattle.halo_sums.specs.Coefficients.{coefficient}
 use Rattle.halo_status.specs.Pay.{PlainPay, pay_of}
 use Rattle.halo_model.specs.Counts.{greatest, size}
 use Rattle.halo_model.specs.Segment.{coefficients_at, first_time}
-use Rattle.halo_sums.specs.SetMasks.{mask_of}
-use Rattle.halo_poly.specs.Poly.{coefficient_of, value_on}
-use Rattle.halo_poly.proofs.Masks.{few_sets}
+use Rattle.halo_poly.specs.Poly.{EachSetOf, coefficient_of, is_marked_within, value_on}
 use Rattle.halo_compile.specs.Form.{IsPolyOf}
-use Rattle.halo_compile.specs.Marks.{MarksExistence}
+use Rattle.halo_compile.specs.Marks.{AreNamed, MarksExistence}
 use Rattle.halo_compile.proofs.Built.{one_built, poly_of_run}
 use Rattle.halo_compile.proofs.Changes.{marked_exists, marked_form}
 use Rattle.halo_compile.proofs.Weights.{weights}
@@ -21,24 +19,23 @@ written : (k : ℕ) (xs ys : List Bool) → length xs ≡ k → take k (xs ++ dr
 written k xs ys e = rw (← e) (take-append_seam xs (drop (length xs) ys))
 
 -- the polynomial of the marked sets is that of the pay
-poly_of_marks : (pay : PlainPay) (n from : ℕ) (marks seen : List Bool) (p : List ℤ) → MarksExistence pay from marks
-    → length marks ≡ 2 ^ n → seen ≡ marks → length p ≡ 2 ^ n
-    → ((s : List Bool) → length s ≡ n
-    → coefficient_of p s ≡ coefficient (λ u. indicator (get_or seen (mask_of u) false)) s)
-    → ((s : List Bool) → length s ≡ n → value_on p s ≡ indicator (get_or seen (mask_of s) false))
+poly_of_marks : (pay : PlainPay) (n named from : ℕ) (marks seen : List Bool) (p : List ℤ)
+    → AreNamed n pay.body named → MarksExistence pay from named marks → seen ≡ marks → length p ≡ 2 ^ n
+    → EachSetOf n (λ s. coefficient_of p s ≡ coefficient (λ u. indicator (is_marked_within seen named u)) s)
+    → EachSetOf n (λ s. value_on p s ≡ indicator (is_marked_within seen named s))
     → IsPolyOf pay n from p
-poly_of_marks pay n from marks seen p is full e whole coefficients values = record {
+poly_of_marks pay n named from marks seen p all is e whole coefficients values = record {
   full = whole;
-  coefficients = λ s l. (rw e at (coefficients s l)) ∙ marked_form pay n from marks is full s l;
-  values = λ s l. (rw e at (values s l)) ∙ marked_exists pay n from marks is full s l;
+  coefficients = λ s l. (rw e at (coefficients s l)) ∙ marked_form pay n named all from marks is s l;
+  values = λ s l. (rw e at (values s l)) ∙ marked_exists pay n named all from marks is s l;
 }
 
 pub mark_existence-requires : goal.mark_existence-requires
 mark_existence-requires g c =
-    omega (arith, few_sets g.row.M c.requires.sets, c.loop-from.invariant.room, ap length c.deref_mut.ensures.value)
+    omega (arith, c.named_among-named.ensures.few, c.loop-from.invariant.room, ap length c.deref_mut.ensures.value)
 
-pub next_change-until-requires-clause-sets : goal.next_change-until-requires-clause-sets
-next_change-until-requires-clause-sets g c =
+pub next_change-until-requires-clause-few : goal.next_change-until-requires-clause-few
+next_change-until-requires-clause-few g c =
     let kept : length c.mark_existence.new.marked ≡ c.loop-from.marked.len =
     omega (arith, c.mark_existence.ensures.length, c.deref_mut.ensures.len) in
     let seen =
@@ -46,7 +43,7 @@ next_change-until-requires-clause-sets g c =
     ∙ written c.loop-from.marked.len c.mark_existence.new.marked c.loop-from.marked.items kept in
     omega (
       arith,
-      few_sets g.row.M c.requires.sets,
+      c.named_among-named.ensures.few,
       c.loop-from.invariant.room,
       ap length seen,
       c.mark_existence.ensures.length,
@@ -64,29 +61,22 @@ loop-from-preserved g c =
     let back = written c.loop-from.marked.len marks c.loop-from.marked.items kept in
     let seen = c.deref.ensures.value ∙ back in
     let seen_again = c.deref-in-loop-from.ensures.value ∙ back in
-    let kept_too : length c.next_change-until.new.next ≡ c.loop-from.next.len =
-    omega (arith, c.next_change-until.ensures.room, c.deref_mut-in-loop-from.ensures.len) in
-    let full_too : length c.next_change-until.new.next ≡ g.row.M =
-    c.next_change-until.ensures.room
-    ∙ ap length c.deref_mut-in-loop-from.ensures.value
-    ∙ c.loop-from.invariant.room_too in
     record {
       room = rw back full;
-      room_too =
-          rw (written c.loop-from.next.len c.next_change-until.new.next c.loop-from.next.items kept_too) full_too;
       within = c.next_change-until.ensures.within;
       built = λ n e.
-          let full_seen : length c.deref.result.now ≡ 2 ^ n = ap length seen ∙ full ∙ e in
-          let same = c.next_change-until.ensures.same n full_seen in
+          let all : AreNamed n pay.body c.named_among-named.result = c.named_among-named.ensures.named n e in
+          let same = c.next_change-until.ensures.same n all in
           let first : IsPolyOf pay n c.loop-from.from c.in_ok-poly.poly =
-          poly_of_marks pay n c.loop-from.from marks c.deref-in-loop-from.result.now c.in_ok-poly.poly
-          c.mark_existence.ensures.marks (full ∙ e) seen_again (c.in_ok-poly.ensures.full ∙ e)
+          poly_of_marks pay n c.named_among-named.result c.loop-from.from marks c.deref-in-loop-from.result.now
+          c.in_ok-poly.poly all c.mark_existence.ensures.marks seen_again (c.in_ok-poly.ensures.full ∙ e)
           (c.in_ok-poly.ensures.coefficients n e) (c.in_ok-poly.ensures.values n e) in
           rw c.in_ok-push.ensures.items
           (one_built pay n (first_time c.args.pay.now.kind) c.loop-from.from c.next_change-until.result
           (c.first_time-from.result + c.args.horizon) c.loop-from.segments.items _
           (c.loop-from.invariant.built n e) refl refl c.next_change-until.ensures.later
-          c.next_change-until.ensures.within same (c.next_change-until.ensures.changes n full_seen)
+          c.next_change-until.ensures.within same
+          (c.next_change-until.ensures.changes n (ap length seen ∙ full ∙ e))
           (λ t low high. poly_of_run pay n t c.loop-from.from c.in_ok-poly.poly first (same t low high)));
     }
 

@@ -9,7 +9,6 @@ abbrev pub invariant-loop-from : goal.invariant-loop-from
 invariant-loop-from g l =
     record {
       room : length l.marked.items ≡ g.row.M;
-      room_too : length l.next.items ≡ g.row.M;
       within : l.from ≤ l.end;
       built : (n : ℕ) → g.row.M ≡ 2 ^ n
           → IsBuilt (pay_of l.pay) n (first_time l.pay.kind) l.from l.end l.segments.items;
