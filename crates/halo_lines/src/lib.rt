@@ -3,6 +3,7 @@
 #![tactic(auto)]
 
 pub mod laws;
+mod parts;
 mod pays;
 mod premium;
 mod report;
@@ -10,6 +11,7 @@ mod reserve;
 #[cfg(test)]
 mod tests;
 
+pub use parts::Part;
 pub use pays::{MOST_WORTH, benefits, pay_lines};
 pub use premium::{PremiumLine, premium_line};
 pub use report::{LARGEST_PRINTED, ValueReport};
