@@ -8,7 +8,7 @@ use Rattle.halo_contract.specs.PlainContract.{life_names}
 use Rattle.halo_contract.specs.declared.contract.LifeLine.{LifeLine}
 use Rattle.halo_spell.specs.Canonical.{chosen, names_in}
 use Rattle.halo_spell.proofs.CausesLeft.{some_name}
-use Rattle.halo_report.specs.FormText.{joined, set_text}
+use Rattle.halo_report.specs.CoefficientText.{joined, set_text}
 
 -- some names, before the first of which this byte stands and before each other one `:`
 abbrev pub names_behind : ℕ → List (List ℕ) → List ℕ

@@ -1,22 +1,21 @@
 -- The terms of a polynomial, set by set.
-use Rattle.std.proofs.Common.{◌≡◌, ◌≢◌, ℕ, zero, suc, ◌+◌, ◌-◌, ◌^◌, ◌<◌, ◌≤◌, List, [], ◌∷◌, ◌++◌, append_assoc, append-nil, arith, ap, sym, ◌∙◌, refl, Bool, true, false, ℤ, pos, negsuc}
+use Rattle.std.proofs.Common.{◌≡◌, ◌≢◌, ℕ, zero, suc, ◌+◌, ◌-◌, ◌^◌, ◌<◌, ◌≤◌, List, [], ◌∷◌, ◌++◌, append_assoc, append-nil, arith, ap, ◌∙◌, refl, Bool, true, false, ℤ, pos, negsuc}
 use Rattle.std.proofs.lemmas.Grind.{flat_map-append}
-use Rattle.std.specs.Fmt.{decimal}
-use Rattle.std.specs.Prelude.{codes, flat_map, replicate, unsigned_abs}
+use Rattle.std.specs.Prelude.{flat_map, replicate}
 use Rattle.halo_sums.specs.Masks.{bits}
 use Rattle.halo_sums.specs.Sums.{numbers_from}
 use Rattle.halo_sums.proofs.SetMasks.{mask_of-bits}
 use Rattle.halo_poly.specs.Poly.{coefficient_at}
-use Rattle.halo_report.specs.FormText.{set_text, sets_of_size, sets_with, sign_text, term_of, term_text, terms_of}
+use Rattle.halo_report.specs.CoefficientText.{coefficient_text, set_text}
+use Rattle.halo_report.specs.FormText.{sets_of_size, sets_with, term_of, term_text, terms_of}
 use Rattle.halo_report.proofs.FewLives.{first-lt}
 use Rattle.halo_report.proofs.SetsInOrder.{bits-more, bits-with, bits-without, sets_of_size-few, sets_with-nil, sets_with-suc}
 
 -- a term that is written
-pub term_text-some : (set : List ℕ) (z : ℤ) → z ≢ pos 0
-    → sign_text z ++ decimal (unsigned_abs z) ++ (codes " " ++ set) ≡ term_text set z
+pub term_text-some : (set : List ℕ) (z : ℤ) → z ≢ pos 0 → coefficient_text set z ≡ term_text set z
 term_text-some set (pos zero) some = absurd (some refl)
-term_text-some set (pos (suc n)) some = sym (append_assoc (sign_text (pos (suc n)) ++ decimal (suc n)) (codes " ") set)
-term_text-some set (negsuc n) some = sym (append_assoc (sign_text (negsuc n) ++ decimal (suc n)) (codes " ") set)
+term_text-some set (pos (suc n)) some = refl
+term_text-some set (negsuc n) some = refl
 
 -- the sets of n lives that have so many of them or more
 abbrev pub sets_from : ℕ → ℕ → List (List Bool)

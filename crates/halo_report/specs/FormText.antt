@@ -1,8 +1,6 @@
 -- The text of compiled forms: for each pay a line with its symbol, and then one for each segment,
 -- with the coefficients of the sets of lives.
-use Rattle.std.specs.Prelude.{ℕ, zero, suc, ◌+◌, List, [], ◌∷◌, ◌++◌, Bool, true, false, Option, Some, None, codes, flat_map, get_or, length, map, replicate, ℤ, pos, negsuc, unsigned_abs}
-use Rattle.std.specs.Fmt.{decimal}
-use Rattle.std.specs.List.{join_with_byte}
+use Rattle.std.specs.Prelude.{ℕ, zero, suc, ◌+◌, List, [], ◌∷◌, ◌++◌, Bool, true, false, Option, Some, None, codes, flat_map, get_or, length, map, replicate, ℤ, pos}
 use Rattle.std.specs.Option.{option_to_list}
 use Rattle.halo_sums.specs.Sums.{numbers_from}
 use Rattle.halo_status.specs.Pay.{PlainPay}
@@ -10,9 +8,9 @@ use Rattle.halo_table.specs.DecrementTable.{TableFile}
 use Rattle.halo_poly.specs.Poly.{coefficient_of}
 use Rattle.halo_compile.specs.declared.form.Segment.{Segment}
 use Rattle.halo_contract.specs.PlainContract.{PlainContract, life_names}
-use Rattle.halo_spell.specs.Canonical.{chosen}
-use Rattle.halo_spell.specs.ContractText.{pay_text}
 use Rattle.halo_spell.specs.StatusText.{status_text}
+use Rattle.halo_report.specs.CoefficientText.{coefficient_text, set_text, times_text}
+use Rattle.halo_report.specs.PaysText.{pays_lines}
 
 -- the sets of n lives that have k lives, in the order of the positions of their lives, compared one
 -- by one from the first: those with the first life come before those without it
@@ -30,25 +28,10 @@ sets_in_order n = flat_map (λ k. sets_of_size k n) (numbers_from 0 (suc n))
 abbrev pub sets_with : List Bool → ℕ → ℕ → List (List Bool)
 sets_with start k n = map (λ s. start ++ s) (sets_of_size k n)
 
--- some names, joined by `:`; `1` where there are none
-abbrev pub joined : List (List ℕ) → List ℕ
-joined [] = codes "1"
-joined (name ∷ names) = join_with_byte 58 (name ∷ names)
-
--- a set of lives that have these names
-abbrev pub set_text : List (List ℕ) → List Bool → List ℕ
-set_text names s = joined (chosen names s)
-
--- the sign of a coefficient, behind a space
-abbrev pub sign_text : ℤ → List ℕ
-sign_text (pos n) = codes " +"
-sign_text (negsuc n) = codes " -"
-
 -- the term of a set with a coefficient: its sign, its size and the set; none where it is 0
 abbrev pub term_text : List ℕ → ℤ → List ℕ
 term_text set (pos zero) = []
-term_text set coefficient =
-    sign_text coefficient ++ decimal (unsigned_abs coefficient) ++ codes " " ++ set
+term_text set coefficient = coefficient_text set coefficient
 
 -- the term of a set in a polynomial
 abbrev pub term_of : List (List ℕ) → List ℤ → List Bool → List ℕ
@@ -70,7 +53,7 @@ poly_text names p = terms_or_zero (terms_of names p (sets_in_order (length names
 -- the line of a segment: its first and its last time, and its polynomial
 abbrev pub segment_line : {m : ℕ} → List (List ℕ) → Segment m → List ℕ
 segment_line names s =
-    decimal s.from ++ codes ".." ++ decimal s.to ++ poly_text names s.poly ++ codes "\n"
+    times_text s.from s.to ++ poly_text names s.poly ++ codes "\n"
 
 -- the lines of the segments of a form
 abbrev pub segment_lines : {m : ℕ} → List (List ℕ) → List (Segment m) → List ℕ
@@ -80,20 +63,9 @@ segment_lines names form = flat_map (segment_line names) form
 abbrev pub form_at : {m : ℕ} → List (List (Segment m)) → ℕ → List (Segment m)
 form_at forms place = get_or forms place []
 
--- the lines of a pay: its number and its symbol, and its form
-abbrev pub pay_lines : {m : ℕ} → List (List ℕ) → List (List ℕ) → ℕ → PlainPay → List (Segment m)
-    → List ℕ
-pay_lines lives causes number pay form =
-    codes "pay " ++ decimal number ++ codes " " ++ pay_text lives causes pay ++ codes "\n"
-    ++ segment_lines lives form
-
--- the lines of some pays, the first of which has its form at a place
-abbrev pub pays_lines : {m : ℕ} → List (List ℕ) → List (List ℕ) → List (List (Segment m)) → ℕ
-    → List PlainPay → List ℕ
-pays_lines lives causes forms place [] = []
-pays_lines lives causes forms place (pay ∷ pays) =
-    pay_lines lives causes (suc place) pay (form_at forms place)
-    ++ pays_lines lives causes forms (suc place) pays
+-- and its lines
+abbrev pub form_lines : {m : ℕ} → List (List ℕ) → List (List (Segment m)) → ℕ → List ℕ
+form_lines names forms place = segment_lines names (form_at forms place)
 
 -- the lines of the premium, where there is one: its status, and the form of its pay
 abbrev pub premium_form_lines : {m : ℕ} → List (List ℕ) → Option PlainPay → List (Segment m)
@@ -109,6 +81,7 @@ form_count contract = length contract.pays + length (option_to_list contract.pre
 -- the lines of the forms of a contract: those of its pays, in its order, and then of its premium
 abbrev pub form_text : {m : ℕ} → TableFile → PlainContract → List (List (Segment m)) → List ℕ
 form_text tables contract forms =
-    pays_lines (life_names contract.lives) tables.causes forms 0 contract.pays
+    pays_lines (life_names contract.lives) tables.causes
+    (form_lines (life_names contract.lives) forms) 0 contract.pays
     ++ premium_form_lines (life_names contract.lives) contract.premium
     (form_at forms (length contract.pays))

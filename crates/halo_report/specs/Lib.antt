@@ -4,4 +4,6 @@ pub mod ValueText
 pub mod Printed
 pub mod ColumnsText
 pub mod Laws
+pub mod CoefficientText
+pub mod PaysText
 pub mod FormText

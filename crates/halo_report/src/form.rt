@@ -9,14 +9,18 @@ ghost use Rattle.halo_contract.specs.PlainContract.{contract_of, life_names};
 ghost use Rattle.halo_contract.specs.ValidContract.{IsValidAmong};
 ghost use Rattle.halo_spell.specs.Spellable.{IsSpellable};
 ghost use Rattle.halo_spell.specs.StatusText.{status_text};
-ghost use Rattle.halo_report.specs.FormText.{form_count, form_text, pay_lines, pays_lines, poly_text, segment_line, segment_lines, set_text, sets_in_order, sets_with, sign_text, term_text, terms_of};
+ghost use Rattle.halo_report.specs.CoefficientText.{set_text};
+ghost use Rattle.halo_report.specs.FormText.{form_count, form_lines, form_text, poly_text, segment_line, segment_lines, sets_in_order, sets_with, term_text, terms_of};
+ghost use Rattle.halo_report.specs.PaysText.{pays_lines};
 
 use crate::Memory;
-use crate::text::{write_bytes, write_number};
+use crate::coefficient::{write_coefficient, write_times};
+use crate::pays::write_symbol_line;
+use crate::text::write_bytes;
 use halo_compile::{Form, Segment};
 use halo_contract::{Contract, LifeLine};
 use halo_poly::{MOST_LIVES, Poly};
-use halo_spell::{spell_pay, spell_status};
+use halo_spell::spell_status;
 use halo_status::{Pay, Status};
 use halo_table::Tables;
 use std::alloc::Global;
@@ -64,35 +68,15 @@ fn write_pays<const M: usize>(
     requires pays { All (IsValidAmong (length lives.now) (length tables.now.causes))
         (map pay_of pays.now) }
     ensures { OnOk result (into.new.items ≡ into.old.items
-        ++ pays_lines (life_names lives.now) tables.now.causes forms.now 0 (map pay_of pays.now)) }
+        ++ pays_lines (life_names lives.now) tables.now.causes
+        (form_lines (life_names lives.now) forms.now) 0 (map pay_of pays.now)) }
 {
     for place in 0..pays.len() {
         let number = place as u64 + 1;
-        write_pay(number, &pays[place], &forms[place], lives, tables, into)?;
+        write_symbol_line(number, &pays[place], lives, tables, into)?;
+        write_form(&forms[place], lives, into)?;
     }
     Ok(())
-}
-
-// Writes the lines of a pay: its number and its symbol, and its form.
-fn write_pay<const M: usize>(
-    number: u64,
-    pay: &Pay,
-    form: &Form<M>,
-    lives: &[LifeLine],
-    tables: &Tables,
-    into: &mut Vec<u8>,
-) -> Result<(), Memory>
-    requires lives { M ≡ 2 ^ length lives.now }
-    requires pay { IsValidAmong (length lives.now) (length tables.now.causes) (pay_of pay.now) }
-    ensures { OnOk result (into.new.items ≡ into.old.items
-        ++ pay_lines (life_names lives.now) tables.now.causes number (pay_of pay.now) form.now) }
-{
-    write_bytes(b"pay ", into)?;
-    write_number(number, into)?;
-    write_bytes(b" ", into)?;
-    spell_pay(pay, lives, tables, into).map_err(|_| Memory)?;
-    write_bytes(b"\n", into)?;
-    write_form(form, lives, into)
 }
 
 // Writes the lines of a premium on a status, with the form of its pay.
@@ -140,9 +124,7 @@ fn write_segment<const M: usize>(
     ensures { OnOk result (into.new.items
         ≡ into.old.items ++ segment_line (life_names lives.now) segment.now) }
 {
-    write_number(u64::from(segment.from), into)?;
-    write_bytes(b"..", into)?;
-    write_number(u64::from(segment.to), into)?;
+    write_times(segment.from, segment.to, into)?;
     write_poly(&segment.poly, lives, into)?;
     write_bytes(b"\n", into)
 }
@@ -230,36 +212,5 @@ fn write_term(
     if coefficient == 0 {
         return Ok(());
     }
-    write_bytes(sign_text(coefficient), into)?;
-    write_number(coefficient.unsigned_abs(), into)?;
-    write_set(set, lives, into)
-}
-
-// The sign of a coefficient, behind a space.
-fn sign_text(coefficient: i64) -> &'static [u8]
-    ensures { result.now ≡ sign_text coefficient }
-{
-    if coefficient < 0 { b" -" } else { b" +" }
-}
-
-// Writes a space, and then a set of lives: their names with `:` between each two, or 1.
-fn write_set(set: u16, lives: &[LifeLine], into: &mut Vec<u8>) -> Result<(), Memory>
-    requires { set < 2 ^ length lives.now }
-    ensures { OnOk result (into.new.items ≡ into.old.items
-        ++ (codes " " ++ set_text (life_names lives.now) (bits (length lives.now) set))) }
-{
-    if set == 0 {
-        return write_bytes(b" 1", into);
-    }
-    let mut left = set;
-    let mut before = b' ';
-    for declared in lives {
-        if left % 2 == 1 {
-            into.push(before)?;
-            write_bytes(declared.name.bytes(), into)?;
-            before = b':';
-        }
-        left /= 2;
-    }
-    Ok(())
+    write_coefficient(coefficient, set, lives, into)
 }

@@ -1,9 +1,11 @@
 //! The texts that a run writes: the report of the values of a contract, and commutation columns.
 #![tactic(auto)]
 
+mod coefficient;
 mod columns;
 mod form;
 pub mod laws;
+mod pays;
 #[cfg(test)]
 mod tests;
 mod text;

@@ -3,7 +3,7 @@ use Rattle.std.proofs.Common.{◌≡◌, ◌≤◌, [], ◌++◌, append-nil, ar
 use Rattle.std.proofs.lemmas.List.{drop_all}
 use Rattle.halo_contract.specs.PlainContract.{life_names}
 use Rattle.halo_report.proofs.SetNames.{empty_set, set_named}
-use Rattle.halo_report.proofs.form.write_set.Goals as goal
+use Rattle.halo_report.proofs.coefficient.write_set.Goals as goal
 
 pub returns-then-set-eq0 : goal.returns-then-set-eq0
 returns-then-set-eq0 c =

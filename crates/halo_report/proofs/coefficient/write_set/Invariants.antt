@@ -3,7 +3,7 @@ use Rattle.std.proofs.Common.{◌≡◌, ◌++◌, drop}
 use Rattle.halo_contract.specs.PlainContract.{life_names}
 use Rattle.halo_spell.specs.Canonical.{names_in}
 use Rattle.halo_report.proofs.SetNames.{names_behind}
-use Rattle.halo_report.proofs.form.write_set.Given as goal
+use Rattle.halo_report.proofs.coefficient.write_set.Given as goal
 
 abbrev pub invariant-loop-declared : goal.invariant-loop-declared
 invariant-loop-declared l =

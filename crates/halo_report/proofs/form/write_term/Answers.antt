@@ -1,9 +1,8 @@
-use Rattle.std.proofs.Common.{◌≡◌, ◌≢◌, append_assoc, append-nil, sym, length, rules, arith, pos}
-use Rattle.std.proofs.lemmas.Int.{ints}
-use Rattle.std.proofs.lemmas.Result.{IfOk-equal}
+use Rattle.std.proofs.Common.{◌≡◌, ◌≢◌, append-nil, sym, length, arith, pos, w64}
+use Rattle.std.proofs.lemmas.Int.{ints, to_z-of_z}
 use Rattle.halo_sums.specs.Masks.{bits}
 use Rattle.halo_contract.specs.PlainContract.{life_names}
-use Rattle.halo_report.specs.FormText.{set_text}
+use Rattle.halo_report.specs.CoefficientText.{set_text}
 use Rattle.halo_report.proofs.Terms.{term_text-some}
 use Rattle.halo_report.proofs.form.write_term.Goals as goal
 
@@ -16,5 +15,5 @@ pub returns : goal.returns
 returns c =
     let some : c.args.coefficient ≢ pos 0 = λ zero. absurd (omega (arith, ints)) in
     let set = set_text (life_names c.args.lives.now) (bits (length c.args.lives.now) c.args.set) in
-    rw (← term_text-some set c.args.coefficient some)
-    (search (rules, IfOk-equal, append_assoc))
+    let passed = to_z-of_z w64 c.args.coefficient c.ranges.coefficient in
+    rw (← term_text-some set c.args.coefficient some) (rw passed at c.write_coefficient.ensures)
