@@ -1,6 +1,6 @@
 -- The lines of pays, one behind the other.
-use Rattle.std.proofs.Common.{◌≡◌, ℕ, suc, ◌+◌, ◌<◌, List, ◌++◌, append_assoc, add-one, drop, drop-cons, get_or, length, map, sym, ◌∙◌, refl}
-use Rattle.std.proofs.lemmas.List.{get_or_default}
+use Rattle.std.proofs.Common.{◌≡◌, ℕ, suc, ◌+◌, ◌<◌, List, ◌++◌, append_assoc, add-one, ap, drop, drop-cons, get_or, length, map, sym, ◌∙◌, refl}
+use Rattle.std.proofs.lemmas.List.{get_or-map, get_or_default}
 use Rattle.std.specs.Prelude.{slice_index_or}
 use Rattle.halo_status.specs.Pay.{pay_of}
 use Rattle.halo_status.specs.declared.pay.Pay.{Pay}
@@ -10,6 +10,11 @@ use Rattle.halo_report.specs.PaysText.{pays_lines, symbol_line}
 pub read-at : {A : Type 0} (xs : List A) (place : ℕ) (x d : A) → place < length xs → x ≡ slice_index_or xs place x
     → get_or xs place d ≡ x
 read-at xs place x d within this = sym (this ∙ get_or_default xs place x d within)
+
+-- and so it is in a list that is seen through a function
+pub read-mapped : {A B : Type 0} (f : A → B) (xs : List A) (place : ℕ) (x : A) (d : B) → place < length xs
+    → x ≡ slice_index_or xs place x → get_or (map f xs) place d ≡ f x
+read-mapped f xs place x d within this = get_or-map f xs place x d within ∙ ap f (sym this)
 
 module _ (lives causes : List (List ℕ)) (lines_at : ℕ → List ℕ) (pays : List Pay) where
   -- the line of a pay and the lines of its place, and those of the pays behind it

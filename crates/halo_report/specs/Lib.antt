@@ -7,3 +7,4 @@ pub mod Laws
 pub mod CoefficientText
 pub mod PaysText
 pub mod FormText
+pub mod ExplainText

@@ -1,8 +1,10 @@
-//! The texts that a run writes: the report of the values of a contract, and commutation columns.
+//! The texts of what a contract is worth: the report of its values, its compiled forms and the parts
+//! of its pays; and the text of commutation columns.
 #![tactic(auto)]
 
 mod coefficient;
 mod columns;
+mod explain;
 mod form;
 pub mod laws;
 mod pays;
@@ -12,8 +14,9 @@ mod text;
 mod value;
 
 pub use columns::columns_text;
+pub use explain::explain_text;
 pub use form::form_text;
-pub use halo_lines::{LARGEST_PRINTED, ValueReport};
+pub use halo_lines::{LARGEST_PRINTED, Part, ValueReport};
 /// There was not enough memory.
 pub use std::alloc::AllocError as Memory;
 pub use value::value_text;

@@ -16,7 +16,8 @@ write_symbol_line-requires g c =
 pub loop-place-preserved : goal.loop-place-preserved
 loop-place-preserved g c =
     let lines = form_lines (life_names c.args.lives.now) c.args.forms.now in
-    let within : c.loop-place.place < length c.args.forms.now = omega (arith, c.loop-place-test.true, c.requires.forms) in
+    let within : c.loop-place.place < length c.args.forms.now
+    = omega (arith, c.loop-place-test.true, c.requires.forms) in
     let form : form_at c.args.forms.now c.loop-place.place ≡ c.index-forms-place.result =
     read-at c.args.forms.now c.loop-place.place c.index-forms-place.result [] within c.index-forms-place.is in
     let written : c.write_form.new.into.items ≡ c.write_symbol_line.new.into.items ++ lines c.loop-place.place =
