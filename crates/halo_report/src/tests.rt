@@ -1,9 +1,11 @@
+// Texts of small data: a report, the columns of three ages, compiled forms, and parts of pays.
 ghost use Rattle.std.specs.Prelude.{◌≡◌, ◌<◌, ◌≤◌, All, IfOk, length, pos, ◌≤ℤ◌};
 ghost use Rattle.halo_contract.specs.PlainContract.{contract_of};
 ghost use Rattle.halo_lines.specs.Printable.{IsPrintable};
+ghost use Rattle.halo_report.specs.ExplainText.{IsPrintablePart, parts_of};
 ghost use Rattle.halo_report.specs.FormText.{form_count};
 
-use crate::{Memory, ValueReport, columns_text, form_text, value_text};
+use crate::{Memory, Part, ValueReport, columns_text, explain_text, form_text, value_text};
 use halo_columns::columns;
 use halo_compile::{Form, compile};
 use halo_contract::Contract;
@@ -74,8 +76,26 @@ premium y:<1>\n\
 0..0 +1 y\n\
 1..2 0\n";
 
+// Two lives of the table with three ages.
+const TWO_LIVES: &[u8] = b"\
+interest 1/1\n\
+life x c 0\n\
+life y c 0\n\
+pay 1 ad[bar(x:y)]\n\
+pay 1 A[x:<2>]\n";
+
+// What each life adds, and what both take off; what falls on the leaving of x, and on the term.
+const PARTS: &[u8] = b"\
+pay 1 ad[bar(x:y)]\n\
+term 0..2 +1 x 1.312500000 1.312500000\n\
+term 0..2 +1 y 1.312500000 1.312500000\n\
+term 0..2 -1 x:y -1.140625000 -1.140625000\n\
+pay 2 A[x:<2>]\n\
+life x 0.312500000 0.312500000\n\
+term 2 0.062500000 0.062500000\n";
+
 // An enclosure whose ends are equal, and a list of one enclosure.
-fn exactly(units: u64) -> Nano
+fn exactly(units: i64) -> Nano
     ensures { IsPrintable result }
 {
     Nano {
@@ -156,5 +176,71 @@ fn text_of_forms(rt: HostRuntime) -> Result<(), Fail> {
     let forms = compile_all(alloc, &contract)?;
     let text = form_text(alloc, &contract, &tables, &forms)?;
     assert!(rt; text.as_slice() == FORMS);
+    Ok(())
+}
+
+// What a coefficient adds at the times 0 to 2.
+fn term(coefficient: i64, set: u16, worth: Nano) -> Part
+    requires set { set < 4 }
+    requires worth { IsPrintable worth }
+    ensures { IsPrintablePart 2 result }
+{
+    Part::Term {
+        from: 0,
+        to: 2,
+        coefficient,
+        set,
+        worth,
+    }
+}
+
+// The parts of an annuity on the last survivor of two lives.
+fn parts_of_annuity(alloc: Global) -> Result<Vec<Part>, Memory>
+    ensures { IfOk result (λ parts. All (IsPrintablePart 2) parts.items) }
+{
+    let mut parts = Vec::new(alloc);
+    parts.push(term(1, 0b01, exactly(1_312_500_000)))?;
+    parts.push(term(1, 0b10, exactly(1_312_500_000)))?;
+    parts.push(term(-1, 0b11, exactly(-1_140_625_000)))?;
+    Ok(parts)
+}
+
+// The parts of an insurance on a life and a term.
+fn parts_of_insurance(alloc: Global) -> Result<Vec<Part>, Memory>
+    ensures { IfOk result (λ parts. All (IsPrintablePart 2) parts.items) }
+{
+    let mut parts = Vec::new(alloc);
+    parts.push(Part::OnLife {
+        life: 0,
+        worth: exactly(312_500_000),
+    })?;
+    parts.push(Part::OnTerm {
+        years: 2,
+        worth: exactly(62_500_000),
+    })?;
+    Ok(parts)
+}
+
+// Those of both.
+fn parts_of_both(alloc: Global) -> Result<Vec<Vec<Part>>, Memory>
+    ensures two { IfOk result (λ parts. length parts.items ≡ 2) }
+    ensures parts { IfOk result (λ parts. All (All (IsPrintablePart 2)) (parts_of parts.items)) }
+{
+    let mut parts = Vec::new(alloc);
+    parts.push(parts_of_annuity(alloc)?)?;
+    parts.push(parts_of_insurance(alloc)?)?;
+    Ok(parts)
+}
+
+#[test]
+fn text_of_parts(rt: HostRuntime) -> Result<(), Fail> {
+    let alloc = rt.alloc();
+    let tables = Tables::read(alloc, TABLES)?;
+    let contract = read_contract(alloc, TWO_LIVES, &tables)?;
+    assert!(rt; contract.lives.len() == 2 && contract.pays.len() == 2);
+    contracts_are_spellable();
+    let parts = parts_of_both(alloc)?;
+    let text = explain_text(alloc, &contract, &tables, &parts)?;
+    assert!(rt; text.as_slice() == PARTS);
     Ok(())
 }
