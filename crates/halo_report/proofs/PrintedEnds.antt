@@ -1,11 +1,9 @@
 -- An interval that is printed has the floor of its lower end and the ceiling of its upper end.
-use Rattle.std.proofs.Common.{◌≡◌, suc, ◌+◌, ◌/◌, ℤ, pos, negsuc, ◌≤ℤ◌, arith, ap, refl}
+use Rattle.std.proofs.Common.{◌≡◌, suc, ◌+◌, ◌/◌, ℤ, pos, negsuc, arith, ap, refl}
 use Rattle.std.proofs.lemmas.Int.{ints}
 use Rattle.halo_num.specs.Ends.{Ends, printed}
 use Rattle.halo_num.specs.Rounding.{IsCeiling, IsFloor}
 use Rattle.halo_num.specs.declared.nano.Nano.{Nano}
-use Rattle.halo_report.specs.ColumnsText.{IsPrintableEntry}
-use Rattle.halo_lines.specs.Printable.{IsPrintable}
 use Rattle.halo_report.specs.Printed.{ceiling_of, floor_of, printed_of}
 
 floor-is : (r z : ℤ) → IsFloor r z (pos printed) → r ≡ floor_of z
@@ -28,16 +26,3 @@ ceiling-is (negsuc r) (negsuc n) f =
 pub nano-is : (i : Ends) (ends : Nano) → IsFloor ends.lo i.lo (pos printed) → IsCeiling ends.hi i.hi (pos printed)
     → ends ≡ printed_of i
 nano-is i ends low high = rw (← floor-is ends.lo i.lo low, ← ceiling-is ends.hi i.hi high) refl
-
-pub nano-fits : (i : Ends) (ends : Nano) → i.lo ≤ℤ i.hi → IsPrintableEntry i
-    → IsFloor ends.lo i.lo (pos printed) → IsCeiling ends.hi i.hi (pos printed) → IsPrintable ends
-nano-fits i ends order within low high = record {
-  lo = record {
-    low = omega (arith, ints, low.reached, low.nearest, within.low);
-    high = omega (arith, ints, low.reached, low.nearest, within.high, order);
-  };
-  hi = record {
-    low = omega (arith, ints, high.reached, high.nearest, within.low, order);
-    high = omega (arith, ints, high.reached, high.nearest, within.high);
-  };
-}
