@@ -1,5 +1,5 @@
-//! The texts of what a contract is worth: the report of its values, its compiled forms and the parts
-//! of its pays; and the text of commutation columns.
+//! The texts of what a contract is worth: the report of its values, its compiled forms and the
+//! parts of its pays; and the text of commutation columns.
 #![tactic(auto)]
 
 mod coefficient;
