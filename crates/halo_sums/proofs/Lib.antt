@@ -10,3 +10,4 @@ pub mod SetMasks
 pub mod Choices
 pub mod SameLength
 pub mod Within
+pub mod SetsInOrder

@@ -6,3 +6,4 @@ pub mod Laws
 pub mod SetMasks
 pub mod Choices
 pub mod Within
+pub mod SetsInOrder

@@ -8,7 +8,11 @@
 
 pub mod laws;
 mod mask;
+mod order;
 mod subsets;
 
 pub use mask::has_bit;
+pub use order::sets_in_order;
+/// There was not enough memory.
+pub use std::alloc::AllocError as Memory;
 pub use subsets::next_within;

@@ -1,0 +1,9 @@
+-- The sets so far and those of the sizes that are left make all sets.
+use Rattle.std.proofs.Common.{◌≡◌, ◌++◌, map}
+use Rattle.halo_sums.specs.Masks.{bits}
+use Rattle.halo_sums.specs.SetsInOrder.{sets_in_order}
+use Rattle.halo_sums.proofs.SetsInOrder.{sets_from}
+use Rattle.halo_sums.proofs.order.sets_in_order.Given as goal
+
+abbrev pub invariant-loop-size : goal.invariant-loop-size
+invariant-loop-size l = map (bits l.count) l.sets.items ++ sets_from l.count l.size ≡ sets_in_order l.count
