@@ -32,6 +32,7 @@ use Rattle.halo_model.proofs.Backward.{backward-sums}
 use Rattle.halo_compile.specs.Form.{IsInForm}
 use Rattle.halo_life.specs.Lists.{nothing}
 use Rattle.halo_annuity.specs.RunWorth.{EnclosesDiscountedSurvival, paid_in}
+use Rattle.halo_annuity.specs.declared.term.TheConstants.{MOST_PART}
 use Rattle.halo_annuity.specs.Worth.{Carries, EnclosesCarried, EnclosesSet, paid_in_all, waited}
 use Rattle.halo_annuity.proofs.Carried.{carried-set, paid-set}
 use Rattle.halo_annuity.proofs.Counting.{count-has-room, most-together, paid-within, sizes-within, waited-together}
@@ -67,6 +68,16 @@ module _ (pay : PlainPay) (run : Run) (times : ℕ) where
   run-small one varies few t h =
       let paid : paid_at pay 0 t ≤ 201 = omega (arith, paid-within pay one 0 t 200 h, factor-sized pay.vary varies) in
       omega (arith, paid-less t, mul-le (paid_at pay 0 t) times 201 (2 ^ 11) paid few)
+
+  pub run-most : (b : Basis) (n t years : ℕ) (s : List Bool) (i : Ends)
+      → pay.amount ≡ 1 → HasValidVary pay.vary → times ≤ 2 ^ 11
+      → t + years ≤ 201 → EnclosesSet b n (paid_in pay run times) s t years i → IsWithin i (pos 0) (pos (MOST_PART * fine))
+  run-most b n t years s i one varies few h worth =
+      let most = most-small (paid_in pay run times) (201 * 2 ^ 11) years t (run-small one varies few) h in
+      let few_ones : paid_in_all (paid_in pay run times) t years ≤ MOST_PART = omega (arith, most, h) in
+      let ones : paid_in_all (paid_in pay run times) t years * fine ≤ MOST_PART * fine =
+      mul-le-mul_right fine few_ones in
+      record { low = worth.within.low; high = omega (arith, ints, worth.within.high, ones) }
 
   -- and so a value is a small number
   pub run-within : (b : Basis) (n t years : ℕ) (s : List Bool) (i : Ends)

@@ -37,12 +37,13 @@ use Rattle.halo_compile.specs.declared.form.Segment.{Segment}
 use Rattle.halo_compile.specs.declared.task.Task.{Task}
 use Rattle.halo_compile.specs.OfTask.{basis_of_task, pay_of_task}
 use Rattle.halo_annuity.specs.RunWorth.{EnclosesRun, paid_in}
+use Rattle.halo_annuity.specs.declared.term.TheConstants.{MOST_PART}
 use Rattle.halo_annuity.specs.Worth.{EnclosesSet}
 use Rattle.halo_compile.proofs.Sums.{wider}
 use Rattle.halo_annuity.proofs.Carried.{positive-both, positive-left}
 use Rattle.halo_annuity.proofs.Living.{row-survives}
 use Rattle.halo_compile.proofs.Coefficients.{coefficient-sized, form-of-one}
-use Rattle.halo_annuity.proofs.RunWorths.{part-narrow, part-sized, run-sums, run-within, signed-part, times-sized}
+use Rattle.halo_annuity.proofs.RunWorths.{part-narrow, part-sized, run-most, run-sums, run-within, signed-part, times-sized}
 use Rattle.halo_compile.proofs.Tasks.{count-lives, some-survive}
 use Rattle.halo_annuity.proofs.TaskFacts.{last-in, some-nodes, some-years}
 
@@ -183,6 +184,11 @@ module _ {n m : ℕ} (task : Task n m) (is : IsTask task)
         n mask (count-lives task.group.now ∙ group.count) below-all run in-years coefficient coefficient-is in
         let ones = mul-le-mul_right fine most in
         record { low = holds.within.low; high = omega (arith, ints, holds.within.high, ones) }
+
+    pub term-most : (worth : Ends) → EnclosesSet (basis_of_task task ties) n (paid_in (pay_of_task task) run times)
+        (bits n mask) 0 (suc run.last) worth → IsWithin worth (pos 0) (pos (MOST_PART * fine))
+    term-most worth holds = run-most (pay_of_task task) run times (basis_of_task task ties) n 0
+        (suc run.last) (bits n mask) worth refl is.valid.vary times-small (omega (arith, to-small, is.horizon_in)) holds
 
     pub term-small : (worth : Ends) → EnclosesSet (basis_of_task task ties) n (paid_in (pay_of_task task) run times)
         (bits n mask) 0 (suc run.last) worth → IsWithin worth (pos 0) (pos (10 ^ 32))

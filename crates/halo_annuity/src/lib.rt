@@ -21,5 +21,5 @@ mod value;
 
 pub use annuities::{annuity, annuity_all};
 pub use step::{at_horizon, year_back};
-pub use term::term_value;
+pub use term::{MOST_PART, term_value};
 pub use value::value_at;

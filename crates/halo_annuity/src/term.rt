@@ -1,5 +1,6 @@
 // The parts of an annuity: what one coefficient of one segment is worth.
-ghost use Rattle.std.specs.Prelude.{◌≡◌, ◌≢◌, suc, ◌+◌, ◌-◌, ◌*◌, ◌<◌, ◌≤◌, length};
+ghost use Rattle.std.specs.Prelude.{◌≡◌, ◌≢◌, suc, ◌+◌, ◌-◌, ◌*◌, ◌<◌, ◌≤◌, length, neg_ℤ, pos};
+ghost use Rattle.halo_num.specs.Ends.{IsWithin, fine};
 ghost use Rattle.halo_status.specs.declared.pay.Kind.TheVariants.{Insurance};
 ghost use Rattle.halo_status.specs.Pay.{pay_of};
 ghost use Rattle.halo_compile.specs.Form.{IsInForm, segment_at};
@@ -14,6 +15,10 @@ use crate::payment::paid_at;
 use halo_compile::{Form, Segment, Task};
 use halo_num::{Ival, Steps};
 use std::sync::ledger::Ledger;
+
+/// The most that a part of an annuity of 1 is worth in size, in ones: 201 payments of at most 201,
+/// for a coefficient of at most [`GREATEST_COEFFICIENT`].
+pub const MOST_PART: u64 = 82_741_248;
 
 /// What the coefficient of a set of lives in one segment of the form adds to the value of an
 /// annuity of 1 at time 0 with all lives alive, whatever the time of the task's group and the lives
@@ -35,6 +40,7 @@ pub fn term_value<const N: usize, const M: usize, L: Ledger>(
     ensures encloses { EnclosesPart task.now segment set result }
     ensures narrow { IsWithinCount task.now result }
     ensures sized { IsWithinWeightedMost task.now result }
+    ensures small { IsWithin result (neg_ℤ (pos (MOST_PART * fine))) (pos (MOST_PART * fine)) }
     ensures cost { steps.new ≤ steps.old + (N + 2) * task.now.horizon }
 {
     // The proof sees here that each year has a fraction, and that the lives have rows.

@@ -4,7 +4,7 @@ use Rattle.std.proofs.lemmas.Int.{ints, to_z-of_z}
 use Rattle.halo_model.specs.Backward.{above_zero, below_zero}
 use Rattle.halo_poly.specs.Poly.{coefficient_at}
 use Rattle.halo_contract.specs.declared.ties.Ties.TheVariants.{Declared}
-use Rattle.halo_annuity.proofs.Terms.{coefficient, coefficient-small, held-in-form, held-run, held-times, part-encloses, term-narrow, term-small, term-within, to-horizon, turned, both-ways, zero-encloses}
+use Rattle.halo_annuity.proofs.Terms.{coefficient, coefficient-small, held-in-form, held-run, held-times, part-encloses, term-most, term-narrow, term-small, term-within, to-horizon, turned, both-ways, zero-encloses}
 use Rattle.halo_annuity.proofs.term.term_value.Goals as goal
 
 pub below_zero-below-requires : goal.below_zero-below-requires
@@ -115,6 +115,22 @@ returns-then-below-gt0-clause-sized g c = λ ties.
     turned c.paid_in_run-worth.result
     c.sub.result _ within c.sub.ensures.lo c.sub.ensures.hi c.exact.ensures.lo c.exact.ensures.hi
 
+pub returns-then-below-gt0-clause-small : goal.returns-then-below-gt0-clause-small
+returns-then-below-gt0-clause-small g c =
+    let e = c.coefficient-coefficient.ensures.value
+    ∙ ap (λ s. coefficient_at s.poly c.args.set) c.segment_of-run.ensures in
+    let back : to_z w64 (of_z w64 c.coefficient-coefficient.result) ≡ c.coefficient-coefficient.result =
+    search (rules, to_z-of_z) in
+    let held = held-run c.args.task.now c.requires.task c.start-start.ensures.group
+    c.args.segment c.args.set c.requires.segment c.requires.set c.segment_of-run.result.now
+    c.above_zero.result c.below_zero-below.result c.paid_in_run-worth.result c.segment_of-run.ensures
+    (c.above_zero.ensures.value ∙ ap above_zero (back ∙ e))
+    (c.below_zero-below.ensures.value ∙ ap below_zero (back ∙ e)) c.paid_in_run-worth.ensures.worth in
+    let within = term-most c.args.task.now c.requires.task c.start-start.ensures.group c.args.segment
+    c.args.set c.requires.segment c.requires.set Declared c.paid_in_run-worth.result (held Declared) in
+    turned c.paid_in_run-worth.result
+    c.sub.result _ within c.sub.ensures.lo c.sub.ensures.hi c.exact.ensures.lo c.exact.ensures.hi
+
 pub returns-then-below-gt0-clause-cost : goal.returns-then-below-gt0-clause-cost
 returns-then-below-gt0-clause-cost g c =
     let to = ap (λ s. s.to) c.segment_of-run.ensures in
@@ -174,6 +190,21 @@ returns-else-below-gt0-clause-sized g c = λ ties.
     (c.below_zero-below.ensures.value ∙ ap below_zero (back ∙ e)) c.paid_in_run-worth.ensures.worth in
     let within = term-within c.args.task.now c.requires.task c.start-start.ensures.group c.args.segment
     c.args.set c.requires.segment c.requires.set ties c.requires.annuity c.paid_in_run-worth.result (held ties) in
+    both-ways c.paid_in_run-worth.result _ within
+
+pub returns-else-below-gt0-clause-small : goal.returns-else-below-gt0-clause-small
+returns-else-below-gt0-clause-small g c =
+    let e = c.coefficient-coefficient.ensures.value
+    ∙ ap (λ s. coefficient_at s.poly c.args.set) c.segment_of-run.ensures in
+    let back : to_z w64 (of_z w64 c.coefficient-coefficient.result) ≡ c.coefficient-coefficient.result =
+    search (rules, to_z-of_z) in
+    let held = held-run c.args.task.now c.requires.task c.start-start.ensures.group
+    c.args.segment c.args.set c.requires.segment c.requires.set c.segment_of-run.result.now
+    c.above_zero.result c.below_zero-below.result c.paid_in_run-worth.result c.segment_of-run.ensures
+    (c.above_zero.ensures.value ∙ ap above_zero (back ∙ e))
+    (c.below_zero-below.ensures.value ∙ ap below_zero (back ∙ e)) c.paid_in_run-worth.ensures.worth in
+    let within = term-most c.args.task.now c.requires.task c.start-start.ensures.group c.args.segment
+    c.args.set c.requires.segment c.requires.set Declared c.paid_in_run-worth.result (held Declared) in
     both-ways c.paid_in_run-worth.result _ within
 
 pub returns-else-below-gt0-clause-cost : goal.returns-else-below-gt0-clause-cost
