@@ -19,7 +19,7 @@ cond-times true amount share worth = omega arith
 cond-times false amount share worth = omega arith
 
 -- a sum of which each term is a multiple
-times-sum : {X : Type 0}
+pub times-sum : {X : Type 0}
     → (xs : List X) (amount : ℕ) (f g : X → ℕ) → ((x : X) → f x ≡ amount * g x) → sum_over xs f ≡ amount * sum_over xs g
 times-sum xs amount f g each = sum_over-ext xs f (λ x. amount * g x) each ∙ sum_over-scale xs amount g
 

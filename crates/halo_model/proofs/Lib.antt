@@ -70,3 +70,4 @@ pub mod Positive
 pub mod PaidBy
 pub mod LastTime
 pub mod PaidInTime
+pub mod PartLines

@@ -9,7 +9,7 @@ use Rattle.halo_contract.specs.Premium.{all_lives}
 use Rattle.halo_model.specs.Value.{numerator, total_numerator}
 use Rattle.halo_model.specs.Widths.{pay_width, printed_pay_width, printed_premium_width, printed_reserve_width, printed_total_width, printed_width}
 
-line : (i : Ends) (ends : Nano) (n : ℤ) (d w : ℕ)
+pub line : (i : Ends) (ends : Nano) (n : ℤ) (d w : ℕ)
     → Encloses i n d → HasWidth i w → IsPrinted i ends → IsLine ends n d (printed_width w)
 line i ends n d w encloses narrow printed =
     record { encloses = printed.encloses n d encloses; narrow = omega (arith, ints, printed.narrow w narrow) }

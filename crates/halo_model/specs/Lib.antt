@@ -50,3 +50,4 @@ pub mod RunPart
 pub mod Unnamed
 pub mod PositiveLaws
 pub mod LastTime
+pub mod PayPart

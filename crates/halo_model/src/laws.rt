@@ -36,6 +36,7 @@ ghost use Rattle.halo_model.specs.ReserveLaw.{ReserveIsConditional};
 ghost use Rattle.halo_model.specs.SecondMoment.{DeferralsTell, SecondMomentByDeferrals};
 ghost use Rattle.halo_model.specs.SecondMoment.{SecondMomentByYears};
 ghost use Rattle.halo_model.specs.SetLaws.{EndBySets, InsuranceBySets, LeavingBySets};
+ghost use Rattle.halo_model.specs.PayPart.{PartHasLine};
 ghost use Rattle.halo_model.specs.RunPart.{RunPartsAddUp};
 ghost use Rattle.halo_model.specs.Unnamed.{UnnamedDoNotCount};
 
@@ -305,4 +306,10 @@ pub fn payments_by_years()
     ensures deferrals { DeferralsTell }
     ensures second_moment { SecondMomentByYears }
     ensures by_deferrals { SecondMomentByDeferrals }
+{}
+
+/// A part of a pay is worth the amount times what it is worth with amount 1: so its line is that of
+/// this multiple, printed outward.
+pub fn parts_have_lines()
+    ensures { PartHasLine }
 {}
