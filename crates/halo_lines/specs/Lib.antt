@@ -3,3 +3,4 @@ pub mod PayLines
 pub mod Printable
 pub mod Report
 pub mod Values
+pub mod Parts

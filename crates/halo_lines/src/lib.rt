@@ -11,7 +11,7 @@ mod reserve;
 #[cfg(test)]
 mod tests;
 
-pub use parts::Part;
+pub use parts::{MOST_PART, Part, part_line};
 pub use pays::{MOST_WORTH, benefits, pay_lines};
 pub use premium::{PremiumLine, premium_line};
 pub use report::{LARGEST_PRINTED, ValueReport};

@@ -1,0 +1,35 @@
+-- The explanation of a contract: the parts of each pay, each with an enclosure.
+use Rattle.std.specs.Prelude.{◌≡◌, List, length}
+use Rattle.std.specs.List.{AllZip}
+use Rattle.halo_sums.specs.Masks.{bits}
+use Rattle.halo_status.specs.Pay.{PlainPay}
+use Rattle.halo_table.specs.DecrementTable.{TableFile}
+use Rattle.halo_contract.specs.PlainContract.{PlainContract}
+use Rattle.halo_model.specs.Basis.{Basis}
+use Rattle.halo_model.specs.Coefficient.{form}
+use Rattle.halo_model.specs.ContractBasis.{contract_basis}
+use Rattle.halo_model.specs.PayPart.{ArePartsOf, IsPartLine, PayPart, by_set, on_life, on_term}
+use Rattle.halo_lines.specs.declared.parts.Part.{Part}
+use Rattle.halo_lines.specs.declared.parts.Part.TheVariants as part
+
+-- a part in memory is what it is of a pay: the same times, coefficient and set of lives, the same
+-- life, or the same length of a term; and its ends enclose what it is worth
+abbrev pub TellsPart : Basis → PlainPay → PayPart → Part → Type 0
+TellsPart b pay (by_set run s) (part.Term from to coefficient set worth) =
+    (run ≡ record { first = from; last = to }) × (s ≡ bits (length b.lives) set)
+    × (coefficient ≡ form pay from s) × IsPartLine b pay (by_set run s) worth
+TellsPart b pay (on_life a) (part.OnLife life worth) =
+    (a ≡ life) × IsPartLine b pay (on_life a) worth
+TellsPart b pay (on_term n) (part.OnTerm years worth) =
+    (n ≡ years) × IsPartLine b pay (on_term n) worth
+TellsPart b pay _ _ = ⊥
+
+-- the parts of a pay, in their order, and no other
+abbrev pub ExplainsPay : Basis → PlainPay → List Part → Type 0
+ExplainsPay b pay told = (parts : List PayPart) × ArePartsOf b pay parts
+    × AllZip (TellsPart b pay) parts told
+
+-- the explanation of a contract: of each of its pays, in their order
+abbrev pub ExplainsContract : TableFile → PlainContract → List (List Part) → Type 0
+ExplainsContract tables contract told =
+    AllZip (ExplainsPay (contract_basis tables contract)) contract.pays told
