@@ -10,7 +10,8 @@ use std::alloc::Global;
 /// by these numbers, compared one by one from the first.
 pub fn sets_in_order(alloc: Global, count: u8) -> Result<Vec<u16>, Memory>
     requires { count ≤ 16 }
-    ensures { IfOk result (λ sets. map (bits count) sets.items ≡ sets_in_order count) }
+    ensures sets { IfOk result (λ sets. map (bits count) sets.items ≡ sets_in_order count) }
+    ensures below { IfOk result (λ sets. All (λ set. set < 2 ^ count) sets.items) }
 {
     let mut sets = Vec::new(alloc);
     for size in 0..count + 1 {
@@ -31,8 +32,10 @@ fn push_sets_with(
     requires few { count ≤ 16 }
     requires number { number ≤ count }
     requires set { set < 2 ^ number }
-    ensures { OnOk result (map (bits count) into.new.items ≡ map (bits count) into.old.items
+    ensures sets { OnOk result (map (bits count) into.new.items ≡ map (bits count) into.old.items
         ++ sets_with (bits number set) more (count - number)) }
+    ensures below { OnOk result (All (λ set. set < 2 ^ count) into.old.items →
+        All (λ set. set < 2 ^ count) into.new.items) }
 {
     if more == 0 {
         into.push(set)?;
