@@ -1,3 +1,4 @@
+// The canonical text of a contract with every form, and of single pays.
 use crate::{spell_contract, spell_pay};
 use halo_parse::read_contract;
 use halo_table::Tables;

@@ -1,3 +1,4 @@
+// Contract files: one with every form of a line, and one for each fault.
 use crate::{ContractError, ContractFault, ContractKind, read_contract};
 use halo_contract::{ReserveLine, Ties};
 use halo_table::{LONGEST_FILE, Tables};
