@@ -19,7 +19,7 @@ use Rattle.halo_model.proofs.HorizonIsLeast.{horizon-is-least}
 use Rattle.halo_life.specs.Lists.{Lists}
 use Rattle.halo_life.specs.Total.{AreModestAt}
 use Rattle.halo_compile.specs.NamedSets.{AreNamed}
-use Rattle.halo_compile.proofs.Ranks.{ranks-ask}
+use Rattle.halo_model.proofs.RanksAsk.{ranks-ask}
 use Rattle.halo_annuity.proofs.Counting.{never-before}
 
 -- the horizon is at least a year, and the last time of the form within it

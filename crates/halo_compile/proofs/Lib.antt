@@ -11,7 +11,6 @@ pub mod Times
 pub mod Clamped
 pub mod Coefficients
 pub mod Named
-pub mod Ranks
 pub mod Sums
 pub mod Tasks
 pub mod Within

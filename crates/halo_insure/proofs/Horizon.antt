@@ -20,7 +20,7 @@ use Rattle.halo_model.specs.Life.{AreLives, PlainLife}
 use Rattle.halo_model.specs.Outcome.{joint_survivors}
 use Rattle.halo_status.proofs.Agreement.{agree, each-agree}
 use Rattle.halo_model.proofs.HorizonIsLeast.{horizon-is-least}
-use Rattle.halo_compile.proofs.Ranks.{ranks-ask, ranks-ask-in}
+use Rattle.halo_model.proofs.RanksAsk.{ranks-ask, ranks-ask-in}
 use Rattle.halo_insure.specs.Dues.{NothingIsDueAfter}
 use Rattle.halo_insure.proofs.Silent.{silent-form}
 

@@ -150,7 +150,7 @@ module _ (b : Basis) (pay : PlainPay) (is : IsValidInsurance pay) (rank : ℕ �
       let q : true ≡ false = sym fails.0 ∙ same ∙ fails.1 in cc
 
   -- a payment falls only on the leaving of a life that the body names ..
-  paid-names-life : (o : Outcome) (a : ℕ) (x : Exit)
+  pub paid-names-life : (o : Outcome) (a : ℕ) (x : Exit)
       → falls_on pay rank T o (leaves a x) ≡ true → names_life a pay.body ≡ true
   paid-names-life o a x h = each (names_life a pay.body) refl
     where

@@ -31,6 +31,7 @@ pub mod Since
 pub mod Conditional
 pub mod FirstMarks
 pub mod Ranks
+pub mod RanksAsk
 pub mod Amounts
 pub mod Benefits
 pub mod Printing
@@ -71,3 +72,4 @@ pub mod PaidBy
 pub mod LastTime
 pub mod PaidInTime
 pub mod PartLines
+pub mod PartsAddUp

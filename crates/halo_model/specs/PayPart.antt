@@ -6,7 +6,8 @@ use Rattle.halo_sums.specs.SetsInOrder.{sets_in_order}
 use Rattle.halo_num.specs.Ends.{Ends, HasWidth}
 use Rattle.halo_num.specs.Enclosure.{Encloses}
 use Rattle.halo_num.specs.declared.nano.Nano.{Nano}
-use Rattle.halo_status.specs.Naming.{names_life}
+use Rattle.halo_status.specs.Tree.{Tree}
+use Rattle.halo_status.specs.Naming.{names_life, names_term}
 use Rattle.halo_status.specs.Pay.{PlainPay}
 use Rattle.halo_status.specs.ValidPay.{IsValidPay}
 use Rattle.halo_status.specs.declared.pay.Kind.{Kind}
@@ -20,7 +21,7 @@ use Rattle.halo_model.specs.Horizon.{horizon}
 use Rattle.halo_model.specs.Life.{AreLives}
 use Rattle.halo_model.specs.Line.{IsLine, IsPrinted}
 use Rattle.halo_model.specs.Order.{rank_in}
-use Rattle.halo_model.specs.Part.{end_part, leaving_part, terms_of}
+use Rattle.halo_model.specs.Part.{end_part, leaving_part}
 use Rattle.halo_model.specs.PartLaws.{EndBy}
 use Rattle.halo_model.specs.RunPart.{run_part}
 use Rattle.halo_model.specs.Segment.{AreSegments, Run}
@@ -48,23 +49,30 @@ is_some (pos zero) = false
 is_some (pos (suc n)) = true
 is_some (negsuc n) = true
 
--- the parts of an annuity in a run of times: one for each set whose coefficient is not 0
+-- the parts of an annuity in a run of times: one for each of some sets whose coefficient is not 0
+abbrev pub parts_by_sets : PlainPay → Run → List (List Bool) → List PayPart
+parts_by_sets pay run sets = map (by_set run) (filter (λ s. is_some (form pay run.first s)) sets)
+
+-- for all sets of n lives, in canonical order
 abbrev pub run_parts : PlainPay → ℕ → Run → List PayPart
-run_parts pay n run =
-    map (by_set run) (filter (λ s. is_some (form pay run.first s)) (sets_in_order n))
+run_parts pay n run = parts_by_sets pay run (sets_in_order n)
 
 -- and in some runs, one after the other
 abbrev pub annuity_parts : PlainPay → ℕ → List Run → List PayPart
 annuity_parts pay n runs = flat_map (run_parts pay n) runs
 
--- the lives that the body of a pay names, in the declared order
-abbrev pub lives_in_body : Basis → PlainPay → List ℕ
-lives_in_body b pay = filter (λ a. names_life a pay.body) (numbers_from 0 (length b.lives))
+-- the parts of an insurance that fall on lives: one for each of some lives that its body names
+abbrev pub parts_on_lives : Tree → List ℕ → List PayPart
+parts_on_lives body lives = map on_life (filter (λ a. names_life a body) lives)
 
--- the parts of an insurance: one for each of these lives, and then one for each length of a term
--- that its body names, in rising order
+-- and on terms: one for each of some lengths of which it names a term
+abbrev pub parts_on_terms : Tree → List ℕ → List PayPart
+parts_on_terms body lengths = map on_term (filter (λ n. names_term n body) lengths)
+
+-- the parts of an insurance: on all lives in the declared order, and then on terms of all lengths
 abbrev pub insurance_parts : Basis → PlainPay → List PayPart
-insurance_parts b pay = map on_life (lives_in_body b pay) ++ map on_term (terms_of b pay)
+insurance_parts b pay = parts_on_lives pay.body (numbers_from 0 (length b.lives))
+    ++ parts_on_terms pay.body (numbers_from 1 b.last_time)
 
 -- these are the parts of an annuity, by the segments of its form
 abbrev pub AreAnnuityParts : Basis → PlainPay → List PayPart → Type 0

@@ -36,7 +36,7 @@ ghost use Rattle.halo_model.specs.ReserveLaw.{ReserveIsConditional};
 ghost use Rattle.halo_model.specs.SecondMoment.{DeferralsTell, SecondMomentByDeferrals};
 ghost use Rattle.halo_model.specs.SecondMoment.{SecondMomentByYears};
 ghost use Rattle.halo_model.specs.SetLaws.{EndBySets, InsuranceBySets, LeavingBySets};
-ghost use Rattle.halo_model.specs.PayPart.{PartHasLine};
+ghost use Rattle.halo_model.specs.PayPart.{PartHasLine, PartsAddUp};
 ghost use Rattle.halo_model.specs.RunPart.{RunPartsAddUp};
 ghost use Rattle.halo_model.specs.Unnamed.{UnnamedDoNotCount};
 
@@ -312,4 +312,9 @@ pub fn payments_by_years()
 /// this multiple, printed outward.
 pub fn parts_have_lines()
     ensures { PartHasLine }
+{}
+
+/// The parts of a pay that a contract may have add up to its value.
+pub fn parts_add_up()
+    ensures { PartsAddUp }
 {}
