@@ -41,7 +41,7 @@ below (negsuc n) d some =
     (negsuc (n / d), record { reached = omega (arith, ints, parts, rest); near = omega (arith, ints, parts) })
 
 -- each fraction has a line
-a-line : (num : ℤ) (den w : ℕ) → 1 ≤ den → 1 ≤ w → (ends : Nano) × IsLine ends num den w
+pub a-line : (num : ℤ) (den w : ℕ) → 1 ≤ den → 1 ≤ w → (ends : Nano) × IsLine ends num den w
 a-line num den w positive wide =
     let lower = below (num *ℤ pos printed) den positive in
     let next = λ (r : ℤ). add_mul r (pos 1) (pos den) in (

@@ -7,7 +7,7 @@ use Rattle.halo_num.specs.declared.nano.Nano.{Nano}
 use Rattle.halo_table.specs.DecrementTable.{TableFile}
 use Rattle.halo_contract.specs.PlainContract.{PlainContract, life_names}
 use Rattle.halo_spell.specs.Canonical.{name_at}
-use Rattle.halo_lines.specs.Printable.{IsPrintable}
+use Rattle.halo_lines.specs.Parts.{worth_of}
 use Rattle.halo_lines.specs.declared.parts.Part.{Part}
 use Rattle.halo_lines.specs.declared.parts.Part.TheVariants as part
 use Rattle.halo_report.specs.CoefficientText.{coefficient_text, set_text, times_text}
@@ -23,12 +23,6 @@ subject_text lives (part.Term from to coefficient set worth) =
 subject_text lives (part.OnLife life worth) = codes "life " ++ name_at lives life
 subject_text lives (part.OnTerm years worth) = codes "term " ++ decimal years
 
--- what a part is worth
-abbrev pub worth_of : Part → Nano
-worth_of (part.Term from to coefficient set worth) = worth
-worth_of (part.OnLife life worth) = worth
-worth_of (part.OnTerm years worth) = worth
-
 -- the line of a part: what it is of, and the two ends
 abbrev pub part_line : List (List ℕ) → Part → List ℕ
 part_line lives p = value_line (subject_text lives p) (worth_of p)
@@ -43,18 +37,3 @@ abbrev pub explain_text : TableFile → PlainContract → List (List Part) → L
 explain_text tables contract parts =
     pays_lines (life_names contract.lives) tables.causes
     (part_lines (life_names contract.lives) parts) 0 contract.pays
-
--- the lives that a part names are below a number
-abbrev pub HasLivesBelow : ℕ → Part → Type 0
-HasLivesBelow n (part.Term from to coefficient set worth) = set < 2 ^ n
-HasLivesBelow n (part.OnLife life worth) = life < n
-HasLivesBelow n (part.OnTerm years worth) = ⊤
-
--- a part of n lives that can be printed
-pub record IsPrintablePart (n : ℕ) (p : Part) : Type 0 where
-  pub lives : HasLivesBelow n p
-  pub worth : IsPrintable (worth_of p)
-
--- lists of parts in memory as plain data
-abbrev pub parts_of : List (Vec Part) → List (List Part)
-parts_of lists = map (λ parts. parts.items) lists

@@ -2,7 +2,8 @@
 ghost use Rattle.std.specs.Prelude.{◌≡◌, ◌++◌, All, IfOk, OnOk, flat_map, length};
 ghost use Rattle.halo_contract.specs.PlainContract.{contract_of, life_names};
 ghost use Rattle.halo_spell.specs.Spellable.{IsSpellable};
-ghost use Rattle.halo_report.specs.ExplainText.{HasLivesBelow, IsPrintablePart, explain_text, part_line, parts_of, subject_text, worth_of};
+ghost use Rattle.halo_lines.specs.Parts.{HasLivesBelow, IsPrintablePart, parts_of, worth_of};
+ghost use Rattle.halo_report.specs.ExplainText.{explain_text, part_line, subject_text};
 
 use crate::Memory;
 use crate::coefficient::{write_coefficient, write_times};

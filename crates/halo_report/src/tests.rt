@@ -2,7 +2,7 @@
 ghost use Rattle.std.specs.Prelude.{◌≡◌, ◌<◌, ◌≤◌, All, IfOk, length, pos, ◌≤ℤ◌};
 ghost use Rattle.halo_contract.specs.PlainContract.{contract_of};
 ghost use Rattle.halo_lines.specs.Printable.{IsPrintable};
-ghost use Rattle.halo_report.specs.ExplainText.{IsPrintablePart, parts_of};
+ghost use Rattle.halo_lines.specs.Parts.{IsPrintablePart, parts_of};
 ghost use Rattle.halo_report.specs.FormText.{form_count};
 
 use crate::{Memory, Part, ValueReport, columns_text, explain_text, form_text, value_text};

@@ -5,7 +5,8 @@ use Rattle.halo_contract.specs.PlainContract.{life_names}
 use Rattle.halo_contract.specs.ValidContract.{IsValidAmong}
 use Rattle.halo_parse.proofs.Each.{each_at}
 use Rattle.halo_status.specs.Pay.{pay_of}
-use Rattle.halo_report.specs.ExplainText.{IsPrintablePart, part_lines, parts_of}
+use Rattle.halo_lines.specs.Parts.{IsPrintablePart, parts_of}
+use Rattle.halo_report.specs.ExplainText.{part_lines}
 use Rattle.halo_report.proofs.PaysLines.{next-pay, read-mapped}
 use Rattle.halo_report.proofs.explain.explain_text.Goals as goal
 

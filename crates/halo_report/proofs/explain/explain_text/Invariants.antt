@@ -2,7 +2,8 @@
 use Rattle.std.proofs.Common.{◌≡◌, ◌++◌, drop, map}
 use Rattle.halo_status.specs.Pay.{pay_of}
 use Rattle.halo_contract.specs.PlainContract.{contract_of, life_names}
-use Rattle.halo_report.specs.ExplainText.{explain_text, part_lines, parts_of}
+use Rattle.halo_lines.specs.Parts.{parts_of}
+use Rattle.halo_report.specs.ExplainText.{explain_text, part_lines}
 use Rattle.halo_report.specs.PaysText.{pays_lines}
 use Rattle.halo_report.proofs.explain.explain_text.Given as goal
 
