@@ -69,7 +69,7 @@ module _ {n m : ℕ} (task : Task n m) (is : IsTask task)
   below-all = subst (λ (k : ℕ). mask < k) is.sets inside
 
   -- the coefficient is that of the form at the first time of the segment
-  coefficient-of : coefficient ≡ form (pay_of task.pay.now) run.first (bits n mask)
+  pub coefficient-of : coefficient ≡ form (pay_of task.pay.now) run.first (bits n mask)
   coefficient-of = coefficients-by-mask (pay_of task.pay.now) n run.first (segment_at task.form.now place).poly
       (segment-is-right (pay_of task.pay.now) n task.horizon run.first place task.form.now is.form
       (record { within = there; from = omega arith; to = in-form.some })) mask below-all

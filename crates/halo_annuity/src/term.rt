@@ -12,7 +12,7 @@ use crate::carry::carried;
 use crate::coefficient::{GREATEST_COEFFICIENT, above_zero, below_zero, ones};
 use crate::one_set::year;
 use crate::payment::paid_at;
-use halo_compile::{Form, Segment, Task};
+use halo_compile::Task;
 use halo_num::{Ival, Steps};
 use std::sync::ledger::Ledger;
 
@@ -46,7 +46,7 @@ pub fn term_value<const N: usize, const M: usize, L: Ledger>(
     // The proof sees here that each year has a fraction, and that the lives have rows.
     let _fractions = task.interest.fractions();
     let _start = task.group.start();
-    let run = segment_of(task.form, segment);
+    let run = task.form.segment(segment);
     let coefficient = run.poly.coefficient(set);
     let below = below_zero(coefficient);
     let times = above_zero(coefficient) + below;
@@ -56,14 +56,6 @@ pub fn term_value<const N: usize, const M: usize, L: Ledger>(
     } else {
         worth
     }
-}
-
-// The segment at a place.
-fn segment_of<const M: usize>(form: &Form<M>, place: usize) -> &Segment<M>
-    requires { place < length form.now }
-    ensures { result.now ≡ segment_at form.now place }
-{
-    &form.segments()[place]
 }
 
 // What so many times the payments of an annuity at the times `from` to `to` are worth at time 0,

@@ -41,6 +41,14 @@ impl<const M: usize> Form<M> {
         self.segments.as_slice()
     }
 
+    /// The segment at a place.
+    pub fn segment(&self, place: usize) -> &Segment<M>
+        requires { place < length self.now }
+        ensures { result.now ≡ segment_at self.now place }
+    {
+        &self.segments.as_slice()[place]
+    }
+
     /// The polynomial of a time of the form.
     pub fn at(&self, t: u16) -> &Poly<M>
         requires { (place : ℕ) × HasTime self.now t place }

@@ -10,7 +10,7 @@ use Rattle.halo_annuity.proofs.term.term_value.Goals as goal
 pub below_zero-below-requires : goal.below_zero-below-requires
 below_zero-below-requires g c =
     let e = c.coefficient-coefficient.ensures.value
-    ∙ ap (λ s. coefficient_at s.poly c.args.set) c.segment_of-run.ensures in
+    ∙ ap (λ s. coefficient_at s.poly c.args.set) c.segment-run.ensures in
     let back : to_z w64 (of_z w64 c.coefficient-coefficient.result) ≡ c.coefficient-coefficient.result =
     search (rules, to_z-of_z) in
     rw (back, e) (coefficient-small c.args.task.now
@@ -19,7 +19,7 @@ below_zero-below-requires g c =
 pub above_zero-requires : goal.above_zero-requires
 above_zero-requires g c =
     let e = c.coefficient-coefficient.ensures.value
-    ∙ ap (λ s. coefficient_at s.poly c.args.set) c.segment_of-run.ensures in
+    ∙ ap (λ s. coefficient_at s.poly c.args.set) c.segment-run.ensures in
     let back : to_z w64 (of_z w64 c.coefficient-coefficient.result) ≡ c.coefficient-coefficient.result =
     search (rules, to_z-of_z) in
     rw (back, e) (coefficient-small c.args.task.now
@@ -28,7 +28,7 @@ above_zero-requires g c =
 pub paid_in_run-worth-requires : goal.paid_in_run-worth-requires
 paid_in_run-worth-requires g c =
     let e = c.coefficient-coefficient.ensures.value
-    ∙ ap (λ s. coefficient_at s.poly c.args.set) c.segment_of-run.ensures in
+    ∙ ap (λ s. coefficient_at s.poly c.args.set) c.segment-run.ensures in
     let back : to_z w64 (of_z w64 c.coefficient-coefficient.result) ≡ c.coefficient-coefficient.result =
     search (rules, to_z-of_z) in (
       lit< tt,
@@ -36,7 +36,7 @@ paid_in_run-worth-requires g c =
         c.requires.task,
         (
           held-in-form c.args.task.now c.requires.task c.start-start.ensures.group c.args.segment
-              c.args.set c.requires.segment c.requires.set c.segment_of-run.result.now c.segment_of-run.ensures,
+              c.args.set c.requires.segment c.requires.set c.segment-run.result.now c.segment-run.ensures,
           held-times c.args.task.now c.requires.task c.start-start.ensures.group
               c.args.segment c.args.set c.requires.segment c.requires.set c.above_zero.result c.below_zero-below.result
               (c.above_zero.ensures.value ∙ ap above_zero (back ∙ e))
@@ -48,12 +48,12 @@ paid_in_run-worth-requires g c =
 pub sub-requires-clause-o_in : goal.sub-requires-clause-o_in
 sub-requires-clause-o_in g c =
     let e = c.coefficient-coefficient.ensures.value
-    ∙ ap (λ s. coefficient_at s.poly c.args.set) c.segment_of-run.ensures in
+    ∙ ap (λ s. coefficient_at s.poly c.args.set) c.segment-run.ensures in
     let back : to_z w64 (of_z w64 c.coefficient-coefficient.result) ≡ c.coefficient-coefficient.result =
     search (rules, to_z-of_z) in
     let held = held-run c.args.task.now c.requires.task c.start-start.ensures.group
-    c.args.segment c.args.set c.requires.segment c.requires.set c.segment_of-run.result.now
-    c.above_zero.result c.below_zero-below.result c.paid_in_run-worth.result c.segment_of-run.ensures
+    c.args.segment c.args.set c.requires.segment c.requires.set c.segment-run.result.now
+    c.above_zero.result c.below_zero-below.result c.paid_in_run-worth.result c.segment-run.ensures
     (c.above_zero.ensures.value ∙ ap above_zero (back ∙ e))
     (c.below_zero-below.ensures.value ∙ ap below_zero (back ∙ e)) c.paid_in_run-worth.ensures.worth in
     let small = term-small c.args.task.now c.requires.task c.start-start.ensures.group c.args.segment
@@ -63,12 +63,12 @@ sub-requires-clause-o_in g c =
 pub returns-then-below-gt0-clause-encloses : goal.returns-then-below-gt0-clause-encloses
 returns-then-below-gt0-clause-encloses g c = λ ties.
     let e = c.coefficient-coefficient.ensures.value
-    ∙ ap (λ s. coefficient_at s.poly c.args.set) c.segment_of-run.ensures in
+    ∙ ap (λ s. coefficient_at s.poly c.args.set) c.segment-run.ensures in
     let back : to_z w64 (of_z w64 c.coefficient-coefficient.result) ≡ c.coefficient-coefficient.result =
     search (rules, to_z-of_z) in
     let held = held-run c.args.task.now c.requires.task c.start-start.ensures.group
-    c.args.segment c.args.set c.requires.segment c.requires.set c.segment_of-run.result.now
-    c.above_zero.result c.below_zero-below.result c.paid_in_run-worth.result c.segment_of-run.ensures
+    c.args.segment c.args.set c.requires.segment c.requires.set c.segment-run.result.now
+    c.above_zero.result c.below_zero-below.result c.paid_in_run-worth.result c.segment-run.ensures
     (c.above_zero.ensures.value ∙ ap above_zero (back ∙ e))
     (c.below_zero-below.ensures.value ∙ ap below_zero (back ∙ e)) c.paid_in_run-worth.ensures.worth in
     let below : c.below_zero-below.result ≡ below_zero (coefficient c.args.task.now
@@ -84,12 +84,12 @@ returns-then-below-gt0-clause-encloses g c = λ ties.
 pub returns-then-below-gt0-clause-narrow : goal.returns-then-below-gt0-clause-narrow
 returns-then-below-gt0-clause-narrow g c = λ ties.
     let e = c.coefficient-coefficient.ensures.value
-    ∙ ap (λ s. coefficient_at s.poly c.args.set) c.segment_of-run.ensures in
+    ∙ ap (λ s. coefficient_at s.poly c.args.set) c.segment-run.ensures in
     let back : to_z w64 (of_z w64 c.coefficient-coefficient.result) ≡ c.coefficient-coefficient.result =
     search (rules, to_z-of_z) in
     let held = held-run c.args.task.now c.requires.task c.start-start.ensures.group
-    c.args.segment c.args.set c.requires.segment c.requires.set c.segment_of-run.result.now
-    c.above_zero.result c.below_zero-below.result c.paid_in_run-worth.result c.segment_of-run.ensures
+    c.args.segment c.args.set c.requires.segment c.requires.set c.segment-run.result.now
+    c.above_zero.result c.below_zero-below.result c.paid_in_run-worth.result c.segment-run.ensures
     (c.above_zero.ensures.value ∙ ap above_zero (back ∙ e))
     (c.below_zero-below.ensures.value ∙ ap below_zero (back ∙ e)) c.paid_in_run-worth.ensures.worth in
     let narrow = term-narrow c.args.task.now c.requires.task c.start-start.ensures.group c.args.segment
@@ -102,12 +102,12 @@ returns-then-below-gt0-clause-narrow g c = λ ties.
 pub returns-then-below-gt0-clause-sized : goal.returns-then-below-gt0-clause-sized
 returns-then-below-gt0-clause-sized g c = λ ties.
     let e = c.coefficient-coefficient.ensures.value
-    ∙ ap (λ s. coefficient_at s.poly c.args.set) c.segment_of-run.ensures in
+    ∙ ap (λ s. coefficient_at s.poly c.args.set) c.segment-run.ensures in
     let back : to_z w64 (of_z w64 c.coefficient-coefficient.result) ≡ c.coefficient-coefficient.result =
     search (rules, to_z-of_z) in
     let held = held-run c.args.task.now c.requires.task c.start-start.ensures.group
-    c.args.segment c.args.set c.requires.segment c.requires.set c.segment_of-run.result.now
-    c.above_zero.result c.below_zero-below.result c.paid_in_run-worth.result c.segment_of-run.ensures
+    c.args.segment c.args.set c.requires.segment c.requires.set c.segment-run.result.now
+    c.above_zero.result c.below_zero-below.result c.paid_in_run-worth.result c.segment-run.ensures
     (c.above_zero.ensures.value ∙ ap above_zero (back ∙ e))
     (c.below_zero-below.ensures.value ∙ ap below_zero (back ∙ e)) c.paid_in_run-worth.ensures.worth in
     let within = term-within c.args.task.now c.requires.task c.start-start.ensures.group c.args.segment
@@ -118,12 +118,12 @@ returns-then-below-gt0-clause-sized g c = λ ties.
 pub returns-then-below-gt0-clause-small : goal.returns-then-below-gt0-clause-small
 returns-then-below-gt0-clause-small g c =
     let e = c.coefficient-coefficient.ensures.value
-    ∙ ap (λ s. coefficient_at s.poly c.args.set) c.segment_of-run.ensures in
+    ∙ ap (λ s. coefficient_at s.poly c.args.set) c.segment-run.ensures in
     let back : to_z w64 (of_z w64 c.coefficient-coefficient.result) ≡ c.coefficient-coefficient.result =
     search (rules, to_z-of_z) in
     let held = held-run c.args.task.now c.requires.task c.start-start.ensures.group
-    c.args.segment c.args.set c.requires.segment c.requires.set c.segment_of-run.result.now
-    c.above_zero.result c.below_zero-below.result c.paid_in_run-worth.result c.segment_of-run.ensures
+    c.args.segment c.args.set c.requires.segment c.requires.set c.segment-run.result.now
+    c.above_zero.result c.below_zero-below.result c.paid_in_run-worth.result c.segment-run.ensures
     (c.above_zero.ensures.value ∙ ap above_zero (back ∙ e))
     (c.below_zero-below.ensures.value ∙ ap below_zero (back ∙ e)) c.paid_in_run-worth.ensures.worth in
     let within = term-most c.args.task.now c.requires.task c.start-start.ensures.group c.args.segment
@@ -133,7 +133,7 @@ returns-then-below-gt0-clause-small g c =
 
 pub returns-then-below-gt0-clause-cost : goal.returns-then-below-gt0-clause-cost
 returns-then-below-gt0-clause-cost g c =
-    let to = ap (λ s. s.to) c.segment_of-run.ensures in
+    let to = ap (λ s. s.to) c.segment-run.ensures in
     let cost = subst (λ (t : ℕ). c.paid_in_run-worth.new.steps ≤ c.args.steps.now + (g.row.N + 2) * t)
     to c.paid_in_run-worth.ensures.cost in
     omega (
@@ -146,12 +146,12 @@ returns-then-below-gt0-clause-cost g c =
 pub returns-else-below-gt0-clause-encloses : goal.returns-else-below-gt0-clause-encloses
 returns-else-below-gt0-clause-encloses g c = λ ties.
     let e = c.coefficient-coefficient.ensures.value
-    ∙ ap (λ s. coefficient_at s.poly c.args.set) c.segment_of-run.ensures in
+    ∙ ap (λ s. coefficient_at s.poly c.args.set) c.segment-run.ensures in
     let back : to_z w64 (of_z w64 c.coefficient-coefficient.result) ≡ c.coefficient-coefficient.result =
     search (rules, to_z-of_z) in
     let held = held-run c.args.task.now c.requires.task c.start-start.ensures.group
-    c.args.segment c.args.set c.requires.segment c.requires.set c.segment_of-run.result.now
-    c.above_zero.result c.below_zero-below.result c.paid_in_run-worth.result c.segment_of-run.ensures
+    c.args.segment c.args.set c.requires.segment c.requires.set c.segment-run.result.now
+    c.above_zero.result c.below_zero-below.result c.paid_in_run-worth.result c.segment-run.ensures
     (c.above_zero.ensures.value ∙ ap above_zero (back ∙ e))
     (c.below_zero-below.ensures.value ∙ ap below_zero (back ∙ e)) c.paid_in_run-worth.ensures.worth in
     let below : c.below_zero-below.result ≡ below_zero (coefficient c.args.task.now
@@ -166,12 +166,12 @@ returns-else-below-gt0-clause-encloses g c = λ ties.
 pub returns-else-below-gt0-clause-narrow : goal.returns-else-below-gt0-clause-narrow
 returns-else-below-gt0-clause-narrow g c = λ ties.
     let e = c.coefficient-coefficient.ensures.value
-    ∙ ap (λ s. coefficient_at s.poly c.args.set) c.segment_of-run.ensures in
+    ∙ ap (λ s. coefficient_at s.poly c.args.set) c.segment-run.ensures in
     let back : to_z w64 (of_z w64 c.coefficient-coefficient.result) ≡ c.coefficient-coefficient.result =
     search (rules, to_z-of_z) in
     let held = held-run c.args.task.now c.requires.task c.start-start.ensures.group
-    c.args.segment c.args.set c.requires.segment c.requires.set c.segment_of-run.result.now
-    c.above_zero.result c.below_zero-below.result c.paid_in_run-worth.result c.segment_of-run.ensures
+    c.args.segment c.args.set c.requires.segment c.requires.set c.segment-run.result.now
+    c.above_zero.result c.below_zero-below.result c.paid_in_run-worth.result c.segment-run.ensures
     (c.above_zero.ensures.value ∙ ap above_zero (back ∙ e))
     (c.below_zero-below.ensures.value ∙ ap below_zero (back ∙ e)) c.paid_in_run-worth.ensures.worth in
     term-narrow c.args.task.now c.requires.task c.start-start.ensures.group c.args.segment
@@ -180,12 +180,12 @@ returns-else-below-gt0-clause-narrow g c = λ ties.
 pub returns-else-below-gt0-clause-sized : goal.returns-else-below-gt0-clause-sized
 returns-else-below-gt0-clause-sized g c = λ ties.
     let e = c.coefficient-coefficient.ensures.value
-    ∙ ap (λ s. coefficient_at s.poly c.args.set) c.segment_of-run.ensures in
+    ∙ ap (λ s. coefficient_at s.poly c.args.set) c.segment-run.ensures in
     let back : to_z w64 (of_z w64 c.coefficient-coefficient.result) ≡ c.coefficient-coefficient.result =
     search (rules, to_z-of_z) in
     let held = held-run c.args.task.now c.requires.task c.start-start.ensures.group
-    c.args.segment c.args.set c.requires.segment c.requires.set c.segment_of-run.result.now
-    c.above_zero.result c.below_zero-below.result c.paid_in_run-worth.result c.segment_of-run.ensures
+    c.args.segment c.args.set c.requires.segment c.requires.set c.segment-run.result.now
+    c.above_zero.result c.below_zero-below.result c.paid_in_run-worth.result c.segment-run.ensures
     (c.above_zero.ensures.value ∙ ap above_zero (back ∙ e))
     (c.below_zero-below.ensures.value ∙ ap below_zero (back ∙ e)) c.paid_in_run-worth.ensures.worth in
     let within = term-within c.args.task.now c.requires.task c.start-start.ensures.group c.args.segment
@@ -195,12 +195,12 @@ returns-else-below-gt0-clause-sized g c = λ ties.
 pub returns-else-below-gt0-clause-small : goal.returns-else-below-gt0-clause-small
 returns-else-below-gt0-clause-small g c =
     let e = c.coefficient-coefficient.ensures.value
-    ∙ ap (λ s. coefficient_at s.poly c.args.set) c.segment_of-run.ensures in
+    ∙ ap (λ s. coefficient_at s.poly c.args.set) c.segment-run.ensures in
     let back : to_z w64 (of_z w64 c.coefficient-coefficient.result) ≡ c.coefficient-coefficient.result =
     search (rules, to_z-of_z) in
     let held = held-run c.args.task.now c.requires.task c.start-start.ensures.group
-    c.args.segment c.args.set c.requires.segment c.requires.set c.segment_of-run.result.now
-    c.above_zero.result c.below_zero-below.result c.paid_in_run-worth.result c.segment_of-run.ensures
+    c.args.segment c.args.set c.requires.segment c.requires.set c.segment-run.result.now
+    c.above_zero.result c.below_zero-below.result c.paid_in_run-worth.result c.segment-run.ensures
     (c.above_zero.ensures.value ∙ ap above_zero (back ∙ e))
     (c.below_zero-below.ensures.value ∙ ap below_zero (back ∙ e)) c.paid_in_run-worth.ensures.worth in
     let within = term-most c.args.task.now c.requires.task c.start-start.ensures.group c.args.segment
@@ -209,7 +209,7 @@ returns-else-below-gt0-clause-small g c =
 
 pub returns-else-below-gt0-clause-cost : goal.returns-else-below-gt0-clause-cost
 returns-else-below-gt0-clause-cost g c =
-    let to = ap (λ s. s.to) c.segment_of-run.ensures in
+    let to = ap (λ s. s.to) c.segment-run.ensures in
     let cost = subst (λ (t : ℕ). c.paid_in_run-worth.new.steps ≤ c.args.steps.now + (g.row.N + 2) * t)
     to c.paid_in_run-worth.ensures.cost in
     omega (
