@@ -42,7 +42,7 @@ agree-next : (n : ℕ) (S U : ℕ → Bool) → AgreeBelow (suc n) S U → Agree
 agree-next n S U same i below = same (suc i) (omega (arith, below))
 
 -- what can become of some lives depends on them alone
-same-outcomes : (T : ℕ) (S U : ℕ → Bool) (lives : List PlainLife) → AgreeBelow (length lives) S U
+pub same-outcomes : (T : ℕ) (S U : ℕ → Bool) (lives : List PlainLife) → AgreeBelow (length lives) S U
     → outcomes T S lives ≡ outcomes T U lives
 same-outcomes T S U [] same = refl
 same-outcomes T S U (x ∷ lives) same =
@@ -69,7 +69,7 @@ module _ (b : Basis) (T : ℕ) (S U : ℕ → Bool) (same : AgreeBelow (length b
       (λ order. sum_over outcomes (λ o. weight b.lives o * outcome_value b pay (rank_in order) T o)))
       (same-outcomes T S U b.lives same)
 
-  same-denominator : denominator b T S ≡ denominator b T U
+  pub same-denominator : denominator b T S ≡ denominator b T U
   unfolding denominator
   same-denominator =
       ap (λ (survivors : ℕ). length (taken b) * (survivors * accumulated b T)) (same-survivors T S U b.lives same)

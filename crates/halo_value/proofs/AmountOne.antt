@@ -14,7 +14,7 @@ use Rattle.halo_annuity.specs.AtTime.{EnclosesAnnuity}
 use Rattle.halo_annuity.specs.Bounds.{IsWithinMost}
 
 -- the measures of a pay do not see its amount
-measures-of-one : (b : Basis) (pay : PlainPay) → measures_of b (of_one pay) ≡ measures_of b pay
+pub measures-of-one : (b : Basis) (pay : PlainPay) → measures_of b (of_one pay) ≡ measures_of b pay
 unfolding form
 measures-of-one b pay = refl
 

@@ -8,4 +8,8 @@ mod ReadBack
 mod ShortTerms
 mod SomeForm
 pub mod SomeForms
+pub mod SomeParts
 mod Zips
+mod Explained
+mod CoefficientParts
+mod EventParts

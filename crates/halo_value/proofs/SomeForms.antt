@@ -13,7 +13,7 @@ use Rattle.halo_value.specs.Forms.{AreForms, IsFormOn, pays_with_premium}
 use Rattle.halo_value.proofs.SomeForm.{form-exists}
 
 -- a horizon has a year
-some-years : (lives : List PlainLife) (body : Tree) → 1 ≤ horizon lives body
+pub some-years : (lives : List PlainLife) (body : Tree) → 1 ≤ horizon lives body
 unfolding horizon
 some-years lives body = omega arith
 

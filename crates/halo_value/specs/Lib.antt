@@ -5,3 +5,4 @@ pub mod Reading
 pub mod Setting
 pub mod ContractValues
 pub mod Forms
+pub mod Explained

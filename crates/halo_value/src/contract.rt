@@ -51,8 +51,12 @@ pub fn report<const N: usize, const M: usize, L: Ledger>(
     report_lines(alloc, pays, reserves, &values, due, steps)
 }
 
-// The lives at the start, all of them alive, with the rule for ties.
-fn group_of<'a, const N: usize>(tables: &'a Tables, lives: &'a [Life], ties: Ties) -> Group<'a, N>
+/// The lives at the start, all of them alive, with the rule for ties.
+pub fn group_of<'a, const N: usize>(
+    tables: &'a Tables,
+    lives: &'a [Life],
+    ties: Ties,
+) -> Group<'a, N>
     requires some { 1 ≤ N }
     requires few { N ≤ MOST_LIVES }
     requires count { length lives.now ≡ N }

@@ -11,17 +11,21 @@
 mod by_kind;
 mod column;
 mod contract;
+mod events;
 mod forms;
 mod lines;
 mod lives;
+mod parts;
 mod pass;
 mod pays;
 mod reading;
+mod terms;
 #[cfg(test)]
 mod tests;
 mod value;
 
 pub use forms::compiled_forms;
+pub use parts::explanation;
 /// There was not enough memory.
 pub use std::alloc::AllocError as Memory;
 pub use value::value_report;
