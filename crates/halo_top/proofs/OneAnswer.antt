@@ -167,6 +167,13 @@ one-task task.Compile task.Value e = absurd (omega (arith, ap first_byte e))
 one-task task.Value task.Compile e = absurd (omega (arith, ap first_byte e))
 one-task task.Compile task.Check e = absurd (omega (arith, ap length e))
 one-task task.Check task.Compile e = absurd (omega (arith, ap length e))
+one-task task.Explain task.Explain e = refl
+one-task task.Explain task.Value e = absurd (omega (arith, ap length e))
+one-task task.Value task.Explain e = absurd (omega (arith, ap length e))
+one-task task.Explain task.Check e = absurd (omega (arith, ap length e))
+one-task task.Check task.Explain e = absurd (omega (arith, ap length e))
+one-task task.Explain task.Compile e = absurd (omega (arith, ap first_byte e))
+one-task task.Compile task.Explain e = absurd (omega (arith, ap first_byte e))
 
 module _ (words : List (List ℕ)) (shelf : Shelved) (reads : ReadsAll words shelf)
     (t : Task) (tables contract : List ℕ) (asks : Asks words t tables contract) where

@@ -13,10 +13,12 @@ use Rattle.halo_contract.specs.ValidContract.{IsValidContract}
 use Rattle.halo_parse.proofs.ValidContracts.{contracts_are_valid}
 use Rattle.halo_parse.proofs.laws.FileChoices.{contract_or_fault}
 use Rattle.halo_lines.proofs.ContractReports.{contracts-have-reports}
+use Rattle.halo_report.specs.ExplainText.{explain_text}
 use Rattle.halo_report.specs.FormText.{form_text}
 use Rattle.halo_report.specs.ValueText.{report_text}
 use Rattle.halo_spell.specs.ContractText.{contract_text}
 use Rattle.halo_value.proofs.SomeForms.{contracts-have-forms}
+use Rattle.halo_value.proofs.SomeParts.{contracts-have-explanations}
 use Rattle.halo_top.specs.Command.{Asks, IsCommand, task_word}
 use Rattle.halo_top.specs.Input.{AreTables, HasContract}
 use Rattle.halo_top.specs.Laws.{AnswerExists}
@@ -45,6 +47,9 @@ text-exists task.Check tables contract sound valid = (contract_text tables contr
 text-exists task.Compile tables contract sound valid =
     let forms = contracts-have-forms tables contract (2 ^ length contract.lives) in
     (form_text tables contract forms.0, (forms.0, forms.1, refl))
+text-exists task.Explain tables contract sound valid =
+    let told = contracts-have-explanations tables sound contract valid in
+    (explain_text tables contract told.0, (told.0, told.1, refl))
 
 module _ (t : Task) (shelf : Shelved) (tables contract : List ℕ)
     (tables_read : IsRead shelf tables) (in_order : AreTables tables_read.all) (read : IsRead shelf contract) where
@@ -90,10 +95,11 @@ files-call t shelf tables contract read = elim (dec_le (length read.tables_read.
 ]
 
 none-of-these : (name : List ℕ) (t : Task) → (name ≡ task_word task.Value → ⊥) → (name ≡ task_word task.Check → ⊥)
-    → (name ≡ task_word task.Compile → ⊥) → name ≡ task_word t → ⊥
-none-of-these name task.Value not_value not_check not_compile is = not_value is
-none-of-these name task.Check not_value not_check not_compile is = not_check is
-none-of-these name task.Compile not_value not_check not_compile is = not_compile is
+    → (name ≡ task_word task.Compile → ⊥) → (name ≡ task_word task.Explain → ⊥) → name ≡ task_word t → ⊥
+none-of-these name task.Value not_value not_check not_compile not_explain is = not_value is
+none-of-these name task.Check not_value not_check not_compile not_explain is = not_check is
+none-of-these name task.Compile not_value not_check not_compile not_explain is = not_compile is
+none-of-these name task.Explain not_value not_check not_compile not_explain is = not_explain is
 
 -- whether words are a command can be told
 of-word : (name tables contract : List ℕ) → Dec (IsCommand (name ∷ tables ∷ contract ∷ []))
@@ -103,7 +109,11 @@ of-word name tables contract = elim (dec_bytes name (task_word task.Value)) [
     | yes is ↦ yes (task.Check, tables, contract, ap (λ (word : List ℕ). word ∷ tables ∷ contract ∷ []) is)
     | no not_check ↦ elim (dec_bytes name (task_word task.Compile)) [
       | yes is ↦ yes (task.Compile, tables, contract, ap (λ (word : List ℕ). word ∷ tables ∷ contract ∷ []) is)
-      | no not_compile ↦ no (λ command. none-of-these name command.0 not_value not_check not_compile (cc command.3))
+      | no not_compile ↦ elim (dec_bytes name (task_word task.Explain)) [
+        | yes is ↦ yes (task.Explain, tables, contract, ap (λ (word : List ℕ). word ∷ tables ∷ contract ∷ []) is)
+        | no not_explain ↦ no (λ command.
+            none-of-these name command.0 not_value not_check not_compile not_explain (cc command.3))
+      ]
     ]
   ]
 ]

@@ -9,9 +9,10 @@ abbrev pub task_word : Task → List ℕ
 task_word task.Value = codes "value"
 task_word task.Check = codes "check"
 task_word task.Compile = codes "compile"
+task_word task.Explain = codes "explain"
 
--- `value T C`, `check T C` or `compile T C`: what to write of the contract in the file C, with the
--- tables in the file T
+-- `value T C`, `check T C`, `compile T C` or `explain T C`: what to write of the contract in the
+-- file C, with the tables in the file T
 abbrev pub Asks : List (List ℕ) → Task → List ℕ → List ℕ → Type 0
 Asks words t tables contract = words ≡ task_word t ∷ tables ∷ contract ∷ []
 

@@ -9,7 +9,10 @@ use Rattle.halo_table.specs.DecrementTable.{TableFile}
 use Rattle.halo_table.specs.Grouping.{tables_of}
 use Rattle.halo_contract.specs.PlainContract.{PlainContract}
 use Rattle.halo_compile.specs.declared.form.Segment.{Segment}
+use Rattle.halo_lines.specs.Parts.{ExplainsContract}
+use Rattle.halo_lines.specs.declared.parts.Part.{Part}
 use Rattle.halo_lines.specs.Report.{EnclosesContract, PlainReport}
+use Rattle.halo_report.specs.ExplainText.{explain_text}
 use Rattle.halo_report.specs.FormText.{form_text}
 use Rattle.halo_report.specs.ValueText.{report_text}
 use Rattle.halo_spell.specs.ContractText.{contract_text}
@@ -41,8 +44,8 @@ shelved file before now = record { file = file; before = before; now = now }
 abbrev pub HasRisen : Shelved → List ℕ → Type 0
 HasRisen shelf name = Rose (shelf.before name) (shelf.now name)
 
--- what a task writes of a contract: a report that encloses what it is worth, its canonical text, or
--- the compiled forms of its pays
+-- what a task writes of a contract: a report that encloses what it is worth, its canonical text,
+-- the compiled forms of its pays, or the parts of each pay, enclosed
 abbrev pub IsTextOf : Task → TableFile → PlainContract → List ℕ → Type 0
 IsTextOf task.Value tables contract text =
     (report : PlainReport) × EnclosesContract tables contract report × (text ≡ report_text report)
@@ -50,6 +53,9 @@ IsTextOf task.Check tables contract text = text ≡ contract_text tables contrac
 IsTextOf task.Compile tables contract text =
     (forms : List (List (Segment (2 ^ length contract.lives))))
     × AreForms tables contract forms × (text ≡ form_text tables contract forms)
+IsTextOf task.Explain tables contract text =
+    (told : List (List Part)) × ExplainsContract tables contract told
+    × (text ≡ explain_text tables contract told)
 
 -- these are the tables and the contract in the files of these names, as far as they are told
 pub record AreWritten

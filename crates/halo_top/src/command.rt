@@ -11,6 +11,8 @@ pub enum Task {
     Check,
     /// `compile`: the compiled forms of its pays.
     Compile,
+    /// `explain`: the parts of its pays.
+    Explain,
 }
 
 /// What the words ask for: what to write of the contract in one file, with the tables in another.
@@ -33,6 +35,7 @@ impl<'a> Command<'a> {
             "value" => Task::Value,
             "check" => Task::Check,
             "compile" => Task::Compile,
+            "explain" => Task::Explain,
             _ => return None,
         };
         Some(Command {

@@ -4,6 +4,7 @@
 mod check;
 mod command;
 mod compile;
+mod explain;
 mod fault_line;
 mod input;
 pub mod laws;

@@ -11,6 +11,7 @@ ghost use Rattle.halo_top.specs.Verdict.{AnswersCommand, IsTextOf, shelved};
 use crate::check::check;
 use crate::command::{Command, Task};
 use crate::compile::compile;
+use crate::explain::explain;
 use crate::input::{load_contract, load_tables};
 use crate::no_words::NoWords;
 use crate::refusal::{Refusal, Stop};
@@ -70,8 +71,8 @@ pub fn run_words<S: Shelf, K: Sink>(
 /// | 9 | for want of memory; nothing was written, and the words were a command |
 ///
 /// `value T C` writes the report of the contract in the file C with the tables in the file T,
-/// `check T C` its canonical text, and `compile T C` the compiled forms of its pays and of its
-/// premium.
+/// `check T C` its canonical text, `compile T C` the compiled forms of its pays and of its premium,
+/// and `explain T C` the parts of each pay.
 ///
 /// The two decimals of each line of a report enclose the exact value of the contract that the files
 /// write, as far as they are told.
@@ -125,6 +126,7 @@ fn text_of(
         Task::Value => value(alloc, tables, contract),
         Task::Check => check(alloc, tables, contract),
         Task::Compile => compile(alloc, tables, contract),
+        Task::Explain => explain(alloc, tables, contract),
     }
 }
 
