@@ -6,7 +6,6 @@ pub mod Totals
 pub mod Modest
 pub mod Passes
 pub mod TaskFacts
-pub mod Living
 pub mod TaskBounds
 pub mod Values
 pub mod OneSet

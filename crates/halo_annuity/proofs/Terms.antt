@@ -41,7 +41,7 @@ use Rattle.halo_annuity.specs.declared.term.TheConstants.{MOST_PART}
 use Rattle.halo_annuity.specs.Worth.{EnclosesSet}
 use Rattle.halo_compile.proofs.Sums.{wider}
 use Rattle.halo_annuity.proofs.Carried.{positive-both, positive-left}
-use Rattle.halo_annuity.proofs.Living.{row-survives}
+use Rattle.halo_compile.proofs.Living.{row-survives}
 use Rattle.halo_compile.proofs.Coefficients.{coefficient-sized, form-of-one}
 use Rattle.halo_annuity.proofs.RunWorths.{part-narrow, part-sized, run-most, run-sums, run-within, signed-part, times-sized}
 use Rattle.halo_compile.proofs.Tasks.{count-lives, some-survive}

@@ -4,12 +4,11 @@ ghost use Rattle.halo_num.specs.Ends.{fine};
 ghost use Rattle.halo_status.specs.declared.pay.Kind.TheVariants.{Insurance};
 ghost use Rattle.halo_life.specs.Total.{AreModestAt, total_of};
 ghost use Rattle.halo_status.specs.Pay.{pay_of};
-ghost use Rattle.halo_compile.specs.NamedSets.{AreNamed, IsNamedPart};
+ghost use Rattle.halo_compile.specs.NamedSets.{AreNamed, IsNamedPart, products_of_pass};
 ghost use Rattle.halo_compile.specs.ValidTask.{IsTask};
 ghost use Rattle.halo_compile.specs.OfTask.{HaveSurvivorsAt};
 ghost use Rattle.halo_annuity.specs.AtTime.{EnclosesAnnuity, HoldAt, PaysAtOnce};
 ghost use Rattle.halo_annuity.specs.Bounds.{IsWithinMost};
-ghost use Rattle.halo_annuity.specs.OfTask.{products_of_pass};
 
 use crate::step::{at_horizon, year_back};
 use crate::value::value_at;

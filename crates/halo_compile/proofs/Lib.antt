@@ -16,3 +16,4 @@ pub mod Tasks
 pub mod Within
 pub mod Interest
 pub mod NamedSets
+pub mod Living

@@ -12,7 +12,6 @@ pub mod Small
 pub mod Carried
 pub mod Tasks
 pub mod Bounds
-pub mod Living
 pub mod WorthOn
 pub mod PartTotals
 pub mod Passes

@@ -27,8 +27,3 @@ HoldDuesAt task t lists = HoldDuesOn task all_events t lists
 abbrev pub products_of_year : {n m : ℕ} → Task n m → ℕ
 products_of_year task =
     products_of_leavings task.group.now.ties (named_of_task task) + 5 * 2 ^ named_of_task task
-
--- the most products of a pass over the years on them, by either rule for ties
-abbrev pub products_of_insurance : {n m : ℕ} → Task n m → ℕ
-products_of_insurance task =
-    8 * (task.horizon + 1) * (named_of_task task + 1) * 2 ^ named_of_task task

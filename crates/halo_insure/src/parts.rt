@@ -8,7 +8,8 @@ ghost use Rattle.halo_model.specs.SetValue.{can_fall_on_life, can_fall_on_term};
 ghost use Rattle.halo_compile.specs.ValidTask.{IsTask};
 ghost use Rattle.halo_compile.specs.OfTask.{pay_of_task};
 ghost use Rattle.halo_insure.specs.Events.{AreEventsOf, worth_on};
-ghost use Rattle.halo_insure.specs.OfTask.{insured_basis, products_of_insurance};
+ghost use Rattle.halo_compile.specs.NamedSets.{products_of_pass};
+ghost use Rattle.halo_insure.specs.OfTask.{insured_basis};
 ghost use Rattle.halo_insure.specs.Parts.{EnclosesEnd, EnclosesLeaving, EnclosesPartOfOne};
 
 use crate::events::Events;
@@ -41,7 +42,7 @@ pub fn on_life<const N: usize, const M: usize, L: Ledger>(
         EnclosesLeaving (insured_basis task.now) (pay_of_task task.now)
         group.start (has_bit group.alive) life result }
     ensures none { can_fall_on_life (pay_of_task task.now) life ≡ false → result ≡ nothing }
-    ensures cost { steps.new ≤ steps.old + products_of_insurance task.now }
+    ensures cost { steps.new ≤ steps.old + products_of_pass task.now }
 {
     // The proof sees here that there are few lives.
     let _start = task.group.start();
@@ -67,7 +68,7 @@ pub fn on_term<const N: usize, const M: usize, L: Ledger>(
         EnclosesEnd (insured_basis task.now) (pay_of_task task.now)
         group.start (has_bit group.alive) n result }
     ensures none { can_fall_on_term (pay_of_task task.now) n ≡ false → result ≡ nothing }
-    ensures cost { steps.new ≤ steps.old + products_of_insurance task.now }
+    ensures cost { steps.new ≤ steps.old + products_of_pass task.now }
 {
     // The proof sees here that there are few lives.
     let _start = task.group.start();
@@ -92,7 +93,7 @@ fn worth_on<const N: usize, const M: usize, L: Ledger>(
         let alive = has_bit group.alive in
         EnclosesPartOfOne b (pay_of_task task.now) group.start alive
         (worth_on events b (pay_of_task task.now) group.start alive) result }
-    ensures cost { steps.new ≤ steps.old + products_of_insurance task.now }
+    ensures cost { steps.new ≤ steps.old + products_of_pass task.now }
 {
     pass(task, events, work, steps);
     worth_at(task, events, task.group.start(), task.group.alive(), work)

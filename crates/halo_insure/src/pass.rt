@@ -3,7 +3,8 @@ ghost use Rattle.std.specs.Prelude.{◌≡◌, ◌+◌, ◌≤◌};
 ghost use Rattle.halo_status.specs.declared.pay.Kind.TheVariants.{Insurance};
 ghost use Rattle.halo_compile.specs.ValidTask.{IsTask};
 ghost use Rattle.halo_insure.specs.Events.{AreEventsOf, events_of};
-ghost use Rattle.halo_insure.specs.OfTask.{HoldDuesOn, products_of_insurance};
+ghost use Rattle.halo_compile.specs.NamedSets.{products_of_pass};
+ghost use Rattle.halo_insure.specs.OfTask.{HoldDuesOn};
 ghost use Rattle.halo_life.specs.Total.{AreModest};
 
 use crate::events::{Events, counted_lives, end_counts};
@@ -25,7 +26,7 @@ pub(crate) fn pass<const N: usize, const M: usize, L: Ledger>(
     requires insurance { task.now.pay.now.kind ≡ Insurance }
     requires events { AreEventsOf N events }
     ensures values { HoldDuesOn task.now (events_of events) task.now.group.now.start work.new }
-    ensures cost { steps.new ≤ steps.old + products_of_insurance task.now }
+    ensures cost { steps.new ≤ steps.old + products_of_pass task.now }
 {
     let start = task.group.start();
     let years = task.horizon.saturating_sub(start);

@@ -4,11 +4,11 @@ ghost use Rattle.halo_status.specs.declared.pay.Kind.TheVariants.{Insurance};
 ghost use Rattle.halo_sums.specs.Masks.{has_bit};
 ghost use Rattle.halo_status.specs.Pay.{pay_of};
 ghost use Rattle.halo_life.specs.Total.{AreModestAt, total_of};
-ghost use Rattle.halo_compile.specs.NamedSets.{AreNamed, IsNamedPart};
+ghost use Rattle.halo_compile.specs.NamedSets.{AreNamed, IsNamedPart, products_of_pass};
 ghost use Rattle.halo_model.specs.Enclosed.{EnclosesOne};
 ghost use Rattle.halo_compile.specs.ValidTask.{IsTask};
 ghost use Rattle.halo_compile.specs.OfTask.{pay_of_task};
-ghost use Rattle.halo_insure.specs.OfTask.{HoldDuesAt, insured_basis, products_of_insurance};
+ghost use Rattle.halo_insure.specs.OfTask.{HoldDuesAt, insured_basis};
 ghost use Rattle.halo_insure.specs.Total.{EnclosesInsurance};
 
 use crate::events::Events;
@@ -42,7 +42,7 @@ pub fn insurance_all<const N: usize, const M: usize, L: Ledger>(
     ensures modest { (set : ℕ) → set < M → AreNamed (pay_of task.now.pay.now).body set →
         AreModestAt set work.new }
     ensures few { M ≤ 4096 }
-    ensures cost { steps.new ≤ steps.old + products_of_insurance task.now }
+    ensures cost { steps.new ≤ steps.old + products_of_pass task.now }
 {
     // The proof sees here that there are few lives.
     let _start = task.group.start();
@@ -62,7 +62,7 @@ pub fn contingent<const N: usize, const M: usize, L: Ledger>(
     ensures encloses { let group = task.now.group.now in
         EnclosesOne (insured_basis task.now) (pay_of_task task.now)
         group.start (has_bit group.alive) result }
-    ensures cost { steps.new ≤ steps.old + products_of_insurance task.now }
+    ensures cost { steps.new ≤ steps.old + products_of_pass task.now }
 {
     insurance_all(task, work, steps);
     value_at(task, task.group.start(), task.group.alive(), work)
@@ -81,7 +81,7 @@ pub fn insurance<const N: usize, const M: usize, L: Ledger>(
     ensures encloses { let group = task.now.group.now in
         EnclosesOne (insured_basis task.now) (pay_of_task task.now)
         group.start (has_bit group.alive) result }
-    ensures cost { steps.new ≤ steps.old + products_of_insurance task.now }
+    ensures cost { steps.new ≤ steps.old + products_of_pass task.now }
 {
     contingent(task, work, steps)
 }

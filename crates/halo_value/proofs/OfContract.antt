@@ -22,7 +22,7 @@ use Rattle.halo_model.specs.ContractBasis.{basis_of, contract_basis}
 use Rattle.halo_model.specs.Horizon.{life_at}
 use Rattle.halo_model.specs.Life.{after_first}
 use Rattle.halo_life.specs.PlainGroup.{PlainGroup}
-use Rattle.halo_annuity.proofs.Living.{row-survives}
+use Rattle.halo_compile.proofs.Living.{row-survives}
 use Rattle.halo_value.specs.ContractValues.{AreContractValues}
 use Rattle.halo_value.specs.PayValues.{ArePremiumValues, AreValuesOf}
 use Rattle.halo_value.specs.declared.pass.PayValues.{PayValues}

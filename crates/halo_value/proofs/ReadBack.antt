@@ -8,7 +8,7 @@ use Rattle.halo_contract.specs.declared.contract.ReserveLine.{ReserveLine}
 use Rattle.halo_model.specs.Horizon.{life_at}
 use Rattle.halo_life.specs.PlainGroup.{IsGroup, PlainGroup, survivors_in}
 use Rattle.halo_compile.specs.declared.task.Task.{Task}
-use Rattle.halo_annuity.proofs.Living.{row-survives}
+use Rattle.halo_compile.proofs.Living.{row-survives}
 use Rattle.halo_value.specs.Reading.{AreReadFrom, CanBeRead}
 
 -- no reserve is later than the last time

@@ -2,7 +2,7 @@ use Rattle.std.proofs.Common.{◌≡◌, ℕ, true, arith, lit<, subst, sym}
 use Rattle.halo_sums.specs.Masks.{has_bit}
 use Rattle.halo_compile.specs.OfTask.{HaveSurvivorsAt}
 use Rattle.halo_annuity.specs.AtTime.{EnclosesAnnuity, HoldAt, PaysAtOnce}
-use Rattle.halo_annuity.proofs.Living.{living-survive}
+use Rattle.halo_compile.proofs.Living.{living-survive}
 use Rattle.halo_annuity.proofs.annuities.annuity.Goals as goal
 
 pub value_at-requires : goal.value_at-requires

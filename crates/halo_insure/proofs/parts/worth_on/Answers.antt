@@ -4,7 +4,7 @@ use Rattle.halo_compile.specs.OfTask.{HaveSurvivorsAt, pay_of_task}
 use Rattle.halo_insure.specs.Events.{events_of, worth_on}
 use Rattle.halo_insure.specs.OfTask.{HoldDuesOn, insured_basis}
 use Rattle.halo_insure.specs.Parts.{EnclosesPartOfOne}
-use Rattle.halo_insure.proofs.Living.{living-survive}
+use Rattle.halo_compile.proofs.Living.{living-survive}
 use Rattle.halo_insure.proofs.parts.worth_on.Goals as goal
 
 pub worth_at-requires : goal.worth_at-requires

@@ -3,7 +3,7 @@ use Rattle.halo_sums.specs.Masks.{has_bit}
 use Rattle.halo_model.specs.Enclosed.{EnclosesOne}
 use Rattle.halo_compile.specs.OfTask.{HaveSurvivorsAt, pay_of_task}
 use Rattle.halo_insure.specs.OfTask.{HoldDuesAt, insured_basis}
-use Rattle.halo_insure.proofs.Living.{living-survive}
+use Rattle.halo_compile.proofs.Living.{living-survive}
 use Rattle.halo_insure.proofs.whole.contingent.Goals as goal
 
 pub value_at-requires : goal.value_at-requires
