@@ -5,3 +5,4 @@ pub mod Weight
 pub mod ValidTask
 pub mod OfTask
 pub mod NamedSets
+pub mod Order

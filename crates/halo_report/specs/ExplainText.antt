@@ -1,9 +1,7 @@
 -- The text of the parts of pays: for each pay a line with its symbol, and then one for each part.
-use Rattle.std.specs.Prelude.{ℕ, ◌^◌, ◌<◌, ⊤, List, [], ◌++◌, codes, flat_map, get_or, length, map}
+use Rattle.std.specs.Prelude.{ℕ, List, [], ◌++◌, codes, flat_map, get_or, length}
 use Rattle.std.specs.Fmt.{decimal}
-use Rattle.std.specs.Global.{Vec}
 use Rattle.halo_sums.specs.Masks.{bits}
-use Rattle.halo_num.specs.declared.nano.Nano.{Nano}
 use Rattle.halo_table.specs.DecrementTable.{TableFile}
 use Rattle.halo_contract.specs.PlainContract.{PlainContract, life_names}
 use Rattle.halo_spell.specs.Canonical.{name_at}

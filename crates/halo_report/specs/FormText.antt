@@ -1,8 +1,8 @@
 -- The text of compiled forms: for each pay a line with its symbol, and then one for each segment,
 -- with the coefficients of the sets of lives.
-use Rattle.std.specs.Prelude.{ℕ, zero, suc, ◌+◌, List, [], ◌∷◌, ◌++◌, Bool, true, false, Option, Some, None, codes, flat_map, get_or, length, map, replicate, ℤ, pos}
+use Rattle.std.specs.Prelude.{ℕ, zero, ◌+◌, List, [], ◌∷◌, ◌++◌, Bool, Option, Some, None, codes, flat_map, get_or, length, ℤ, pos}
 use Rattle.std.specs.Option.{option_to_list}
-use Rattle.halo_sums.specs.Sums.{numbers_from}
+use Rattle.halo_sums.specs.SetsInOrder.{sets_in_order}
 use Rattle.halo_status.specs.Pay.{PlainPay}
 use Rattle.halo_table.specs.DecrementTable.{TableFile}
 use Rattle.halo_poly.specs.Poly.{coefficient_of}
@@ -11,22 +11,6 @@ use Rattle.halo_contract.specs.PlainContract.{PlainContract, life_names}
 use Rattle.halo_spell.specs.StatusText.{status_text}
 use Rattle.halo_report.specs.CoefficientText.{coefficient_text, set_text, times_text}
 use Rattle.halo_report.specs.PaysText.{pays_lines}
-
--- the sets of n lives that have k lives, in the order of the positions of their lives, compared one
--- by one from the first: those with the first life come before those without it
-abbrev pub sets_of_size : ℕ → ℕ → List (List Bool)
-sets_of_size zero n = replicate n false ∷ []
-sets_of_size (suc k) zero = []
-sets_of_size (suc k) (suc n) =
-    map (λ s. true ∷ s) (sets_of_size k n) ++ map (λ s. false ∷ s) (sets_of_size (suc k) n)
-
--- all sets of n lives in canonical order: first by how many lives they have
-abbrev pub sets_in_order : ℕ → List (List Bool)
-sets_in_order n = flat_map (λ k. sets_of_size k n) (numbers_from 0 (suc n))
-
--- the sets that begin with a set of the first lives, and have k of the n lives behind them
-abbrev pub sets_with : List Bool → ℕ → ℕ → List (List Bool)
-sets_with start k n = map (λ s. start ++ s) (sets_of_size k n)
 
 -- the term of a set with a coefficient: its sign, its size and the set; none where it is 0
 abbrev pub term_text : List ℕ → ℤ → List ℕ

@@ -10,7 +10,8 @@ ghost use Rattle.halo_contract.specs.ValidContract.{IsValidAmong};
 ghost use Rattle.halo_spell.specs.Spellable.{IsSpellable};
 ghost use Rattle.halo_spell.specs.StatusText.{status_text};
 ghost use Rattle.halo_report.specs.CoefficientText.{set_text};
-ghost use Rattle.halo_report.specs.FormText.{form_count, form_lines, form_text, poly_text, segment_line, segment_lines, sets_in_order, sets_with, term_text, terms_of};
+ghost use Rattle.halo_compile.specs.Order.{AreSetsInOrder};
+ghost use Rattle.halo_report.specs.FormText.{form_count, form_lines, form_text, poly_text, segment_line, segment_lines, term_text, terms_of};
 ghost use Rattle.halo_report.specs.PaysText.{pays_lines};
 
 use crate::Memory;
@@ -22,6 +23,7 @@ use halo_contract::{Contract, LifeLine};
 use halo_poly::{MOST_LIVES, Poly};
 use halo_spell::spell_status;
 use halo_status::{Pay, Status};
+use halo_sums::sets_in_order;
 use halo_table::Tables;
 use std::alloc::Global;
 
@@ -41,16 +43,25 @@ pub fn form_text<const M: usize>(
     forms: &[Form<M>],
 ) -> Result<Vec<u8>, Memory>
     requires lives { M ≡ 2 ^ length contract.now.lives.items }
+    requires few { length contract.now.lives.items ≤ MOST_LIVES }
     requires forms { length forms.now ≡ form_count (contract_of contract.now) }
     requires contract { IsSpellable tables.now (contract_of contract.now) }
     ensures { IfOk result (λ text. text.items
         ≡ form_text tables.now (contract_of contract.now) forms.now) }
 {
+    let sets = sets_in_order(alloc, contract.lives.len() as u8)?;
     let mut text = Vec::new(alloc);
-    write_pays(&contract.pays, forms, &contract.lives, tables, &mut text)?;
+    write_pays(
+        &contract.pays,
+        forms,
+        &sets,
+        &contract.lives,
+        tables,
+        &mut text,
+    )?;
     if let Some(pay) = &contract.premium {
         let form = &forms[contract.pays.len()];
-        write_premium(&pay.body, &contract.lives, form, &mut text)?;
+        write_premium(&pay.body, form, &sets, &contract.lives, &mut text)?;
     }
     Ok(text)
 }
@@ -59,11 +70,13 @@ pub fn form_text<const M: usize>(
 fn write_pays<const M: usize>(
     pays: &[Pay],
     forms: &[Form<M>],
+    sets: &[u16],
     lives: &[LifeLine],
     tables: &Tables,
     into: &mut Vec<u8>,
 ) -> Result<(), Memory>
     requires lives { M ≡ 2 ^ length lives.now }
+    requires sets { AreSetsInOrder (length lives.now) sets.now }
     requires forms { length pays.now ≤ length forms.now }
     requires pays { All (IsValidAmong (length lives.now) (length tables.now.causes))
         (map pay_of pays.now) }
@@ -74,7 +87,7 @@ fn write_pays<const M: usize>(
     for place in 0..pays.len() {
         let number = place as u64 + 1;
         write_symbol_line(number, &pays[place], lives, tables, into)?;
-        write_form(&forms[place], lives, into)?;
+        write_form(&forms[place], sets, lives, into)?;
     }
     Ok(())
 }
@@ -82,11 +95,13 @@ fn write_pays<const M: usize>(
 // Writes the lines of a premium on a status, with the form of its pay.
 fn write_premium<const M: usize>(
     status: &Status,
-    lives: &[LifeLine],
     form: &Form<M>,
+    sets: &[u16],
+    lives: &[LifeLine],
     into: &mut Vec<u8>,
 ) -> Result<(), Memory>
     requires lives { M ≡ 2 ^ length lives.now }
+    requires sets { AreSetsInOrder (length lives.now) sets.now }
     requires named { NamesLivesBelow (length lives.now) (tree_of status.now) }
     ensures { OnOk result (into.new.items ≡ into.old.items
         ++ (codes "premium " ++ status_text (life_names lives.now) (tree_of status.now)
@@ -95,21 +110,23 @@ fn write_premium<const M: usize>(
     write_bytes(b"premium ", into)?;
     spell_status(status, lives, into).map_err(|_| Memory)?;
     write_bytes(b"\n", into)?;
-    write_form(form, lives, into)
+    write_form(form, sets, lives, into)
 }
 
 // Writes the lines of the segments of a form.
 fn write_form<const M: usize>(
     form: &Form<M>,
+    sets: &[u16],
     lives: &[LifeLine],
     into: &mut Vec<u8>,
 ) -> Result<(), Memory>
-    requires { M ≡ 2 ^ length lives.now }
+    requires lives { M ≡ 2 ^ length lives.now }
+    requires sets { AreSetsInOrder (length lives.now) sets.now }
     ensures { OnOk result (into.new.items
         ≡ into.old.items ++ segment_lines (life_names lives.now) form.now) }
 {
     for segment in form.segments() {
-        write_segment(segment, lives, into)?;
+        write_segment(segment, sets, lives, into)?;
     }
     Ok(())
 }
@@ -117,85 +134,56 @@ fn write_form<const M: usize>(
 // Writes the line of a segment.
 fn write_segment<const M: usize>(
     segment: &Segment<M>,
+    sets: &[u16],
     lives: &[LifeLine],
     into: &mut Vec<u8>,
 ) -> Result<(), Memory>
-    requires { M ≡ 2 ^ length lives.now }
+    requires lives { M ≡ 2 ^ length lives.now }
+    requires sets { AreSetsInOrder (length lives.now) sets.now }
     ensures { OnOk result (into.new.items
         ≡ into.old.items ++ segment_line (life_names lives.now) segment.now) }
 {
     write_times(segment.from, segment.to, into)?;
-    write_poly(&segment.poly, lives, into)?;
+    write_poly(&segment.poly, sets, lives, into)?;
     write_bytes(b"\n", into)
 }
 
 // Writes a polynomial: its terms, or a 0 where it has none.
 fn write_poly<const M: usize>(
     poly: &Poly<M>,
+    sets: &[u16],
     lives: &[LifeLine],
     into: &mut Vec<u8>,
 ) -> Result<(), Memory>
-    requires { M ≡ 2 ^ length lives.now }
+    requires lives { M ≡ 2 ^ length lives.now }
+    requires sets { AreSetsInOrder (length lives.now) sets.now }
     ensures { OnOk result (into.new.items
         ≡ into.old.items ++ poly_text (life_names lives.now) poly.now) }
 {
     let before = into.len();
-    write_terms(poly.coefficients(), lives, into)?;
+    write_terms(poly, sets, lives, into)?;
     if into.len() == before {
         write_bytes(b" 0", into)?;
     }
     Ok(())
 }
 
-// Writes the terms of some coefficients, by the number of their lives.
-fn write_terms(coefficients: &[i64], lives: &[LifeLine], into: &mut Vec<u8>) -> Result<(), Memory>
-    requires few { length lives.now ≤ MOST_LIVES }
-    requires sets { AreCoefficients (2 ^ length lives.now) coefficients.now }
-    ensures { OnOk result (into.new.items ≡ into.old.items
-        ++ terms_of (life_names lives.now) coefficients.now (sets_in_order (length lives.now))) }
-{
-    for size in 0..lives.len() + 1 {
-        write_terms_with(0, 0, size, coefficients, lives, into)?;
-    }
-    Ok(())
-}
-
-// Writes the terms of the sets that have the lives of a set, all before this life, and so many more
-// of the lives from it on: those with this life, and then those without it.
-fn write_terms_with(
-    set: u16,
-    life: usize,
-    more: usize,
-    coefficients: &[i64],
+// Writes the terms of some sets, each with its coefficient.
+fn write_terms<const M: usize>(
+    poly: &Poly<M>,
+    sets: &[u16],
     lives: &[LifeLine],
     into: &mut Vec<u8>,
 ) -> Result<(), Memory>
-    requires few { length lives.now ≤ MOST_LIVES }
-    requires sets { AreCoefficients (2 ^ length lives.now) coefficients.now }
-    requires life { life ≤ length lives.now }
-    requires set { set < 2 ^ life }
+    requires lives { M ≡ 2 ^ length lives.now }
+    requires below { All (λ set. set < 2 ^ length lives.now) sets.now }
     ensures { OnOk result (into.new.items ≡ into.old.items
-        ++ terms_of (life_names lives.now) coefficients.now
-        (sets_with (bits life set) more (length lives.now - life))) }
+        ++ terms_of (life_names lives.now) poly.now (map (bits (length lives.now)) sets.now)) }
 {
-    if more == 0 {
-        return write_term(coefficients[usize::from(set)], set, lives, into);
+    for set in sets {
+        write_term(poly.coefficient(*set), *set, lives, into)?;
     }
-    if lives.len() - life < more {
-        return Ok(());
-    }
-    let with = with_life(set, life);
-    write_terms_with(with, life + 1, more - 1, coefficients, lives, into)?;
-    write_terms_with(set, life + 1, more, coefficients, lives, into)
-}
-
-// A set of lives before this one, with this life.
-fn with_life(set: u16, life: usize) -> u16
-    requires few { life < MOST_LIVES }
-    requires before { set < 2 ^ life }
-    ensures { result ≡ set + 2 ^ life }
-{
-    set + (1 << life)
+    Ok(())
 }
 
 // Writes the term of a set with a coefficient; nothing where it is 0.

@@ -12,11 +12,6 @@ use Rattle.halo_value.specs.declared.pass.TheConstants.{ALL_LIVES}
 use Rattle.halo_lines.specs.Parts.{IsPrintablePart, TellsPart}
 use Rattle.halo_lines.specs.declared.parts.Part.{Part}
 
--- all sets of n lives as masks, in canonical order
-pub record AreSetsInOrder (n : ℕ) (sets : List ℕ) : Type 0 where
-  pub order : map (bits n) sets ≡ sets_in_order n
-  pub below : All (λ set. set < 2 ^ n) sets
-
 -- the parts before are told with some more behind them, and all can be printed if those before can
 pub record AddsParts (n : ℕ) (b : Basis) (pay : PlainPay) (more : List PayPart)
     (before after : List Part) : Type 0 where

@@ -4,8 +4,9 @@ ghost use Rattle.std.specs.List.{AllZip};
 ghost use Rattle.halo_status.specs.Pay.{pay_of};
 ghost use Rattle.halo_contract.specs.PlainContract.{contract_of};
 ghost use Rattle.halo_contract.specs.ValidContract.{IsValidContract};
+ghost use Rattle.halo_compile.specs.Order.{AreSetsInOrder};
 ghost use Rattle.halo_lines.specs.Parts.{ExplainsContract, ExplainsPay, IsPrintablePart, parts_of};
-ghost use Rattle.halo_value.specs.Explained.{AreSetsInOrder, IsSettingAtStart};
+ghost use Rattle.halo_value.specs.Explained.{IsSettingAtStart};
 ghost use Rattle.halo_value.specs.Setting.{CanBeValued, basis_of_setting};
 
 use crate::Memory;

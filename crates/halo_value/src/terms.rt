@@ -7,8 +7,9 @@ ghost use Rattle.halo_model.specs.PayPart.{parts_by_sets, run_parts};
 ghost use Rattle.halo_compile.specs.Form.{run_of, segment_at};
 ghost use Rattle.halo_compile.specs.OfTask.{basis_of_task};
 ghost use Rattle.halo_compile.specs.ValidTask.{IsTask};
+ghost use Rattle.halo_compile.specs.Order.{AreSetsInOrder};
 ghost use Rattle.halo_lines.specs.Parts.{ExplainsPay, IsPrintablePart};
-ghost use Rattle.halo_value.specs.Explained.{AddsParts, AreSetsInOrder};
+ghost use Rattle.halo_value.specs.Explained.{AddsParts};
 
 use crate::Memory;
 use halo_annuity::term_value;

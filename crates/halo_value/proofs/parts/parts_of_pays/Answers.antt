@@ -9,7 +9,7 @@ use Rattle.halo_status.specs.declared.pay.Pay.{Pay}
 use Rattle.halo_lines.specs.Parts.{ExplainsPay, IsPrintablePart, parts_of}
 use Rattle.halo_lines.specs.declared.parts.Part.{Part}
 use Rattle.std.specs.Global.{Vec}
-use Rattle.halo_value.specs.Explained.{AreSetsInOrder}
+use Rattle.halo_compile.specs.Order.{AreSetsInOrder}
 use Rattle.halo_value.specs.Setting.{CanBeValued, basis_of_setting}
 use Rattle.halo_value.proofs.parts.parts_of_pays.Goals as goal
 
