@@ -10,8 +10,11 @@ form_text-requires c =
       (
         rw three refl,
         (
-          rw c'.deref.ensures.value c'.in_ok-forms.ensures,
-          c'.contracts_are_spellable.ensures _ _ _ c'.in_ok-contract.ensures,
+          omega (three, arith),
+          (
+            rw c'.deref.ensures.value c'.in_ok-forms.ensures,
+            c'.contracts_are_spellable.ensures _ _ _ c'.in_ok-contract.ensures,
+          ),
         ),
       ),
     )
