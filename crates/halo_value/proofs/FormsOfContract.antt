@@ -14,7 +14,8 @@ use Rattle.halo_model.specs.FromTables.{lives_of}
 use Rattle.halo_compile.specs.declared.form.Segment.{Segment}
 use Rattle.halo_value.specs.Forms.{AreForms, HaveSets, IsFormOn}
 use Rattle.halo_value.specs.Setting.{CanBeValued}
-use Rattle.halo_value.proofs.OfContract.{declared, pays-valued, rows-at}
+use Rattle.halo_value.specs.Setting.{declared}
+use Rattle.halo_value.proofs.OfContract.{pays-valued, rows-at}
 
 module _ (tables : TableFile) (contract : PlainContract) (valid : IsValidContract tables contract)
     (lives : List Life) (told : lives ≡ declared contract.lives) where

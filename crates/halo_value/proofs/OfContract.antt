@@ -1,6 +1,6 @@
 -- What a valid contract says of its lives, its pays and its reserves.
 use Rattle.std.proofs.Common.{◌≡◌, ℕ, zero, suc, ◌+◌, ◌<◌, ◌≤◌, Bool, true, List, []}
-use Rattle.std.proofs.Common.{◌∷◌, Option, Some, length, map, refl, ap, ◌∙◌, sym, subst, arith}
+use Rattle.std.proofs.Common.{◌∷◌, Option, Some, length, refl, ap, ◌∙◌, sym, subst, arith}
 use Rattle.std.specs.Prelude.{All, slice_get}
 use Rattle.std.specs.List.{AllZip, sum_by}
 use Rattle.std.proofs.lemmas.List.{length-map}
@@ -16,7 +16,6 @@ use Rattle.halo_contract.specs.PlainContract.{PlainContract}
 use Rattle.halo_contract.specs.ValidContract.{IsValidContract}
 use Rattle.halo_contract.specs.declared.contract.LifeLine.{LifeLine}
 use Rattle.halo_contract.specs.declared.contract.ReserveLine.{ReserveLine}
-use Rattle.halo_contract.specs.declared.ties.Ties.{Ties}
 use Rattle.halo_model.specs.Basis.{Basis}
 use Rattle.halo_model.specs.ContractBasis.{basis_of, contract_basis}
 use Rattle.halo_model.specs.Horizon.{life_at}
@@ -26,22 +25,8 @@ use Rattle.halo_compile.proofs.Living.{row-survives}
 use Rattle.halo_value.specs.ContractValues.{AreContractValues}
 use Rattle.halo_value.specs.PayValues.{ArePremiumValues, AreValuesOf}
 use Rattle.halo_value.specs.declared.pass.PayValues.{PayValues}
-use Rattle.halo_value.specs.declared.pass.TheConstants.{ALL_LIVES}
 use Rattle.halo_value.specs.Reading.{CanBeRead}
-use Rattle.halo_value.specs.Setting.{CanBeAsked, CanBeValued}
-
--- the lives of some lines
-abbrev pub declared : List LifeLine → List Life
-declared lines = map (λ line. line.life) lines
-
--- some lives at the start, with a rule for ties
-abbrev pub group_with : TableFile → List Life → Ties → PlainGroup
-group_with tables lives ties =
-    record { file = tables; lives = lives; start = 0; alive = ALL_LIVES; ties = ties }
-
--- the lives of a contract at the start
-abbrev pub group_at_start : TableFile → PlainContract → PlainGroup
-group_at_start tables contract = group_with tables (declared contract.lives) contract.ties
+use Rattle.halo_value.specs.Setting.{CanBeAsked, CanBeValued, declared, group_at_start}
 
 -- a sum in the two ways in which it is written
 sums-agree : {X : Type 0} (f : X → ℕ) (xs : List X) → sum_over xs f ≡ sum_by f xs

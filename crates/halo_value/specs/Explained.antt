@@ -1,8 +1,6 @@
 -- Parts of a pay that are told one after the other.
-use Rattle.std.specs.Prelude.{◌≡◌, ℕ, ◌<◌, ◌++◌, ◌^◌, All, List, map}
+use Rattle.std.specs.Prelude.{◌≡◌, ℕ, ◌++◌, All, List}
 use Rattle.std.specs.List.{AllZip}
-use Rattle.halo_sums.specs.Masks.{bits}
-use Rattle.halo_sums.specs.SetsInOrder.{sets_in_order}
 use Rattle.halo_status.specs.Pay.{PlainPay}
 use Rattle.halo_model.specs.Basis.{Basis}
 use Rattle.halo_model.specs.PayPart.{PayPart}

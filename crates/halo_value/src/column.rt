@@ -1,5 +1,5 @@
 // The values of all pays at one time.
-ghost use Rattle.std.specs.Prelude.{◌≡◌, ◌<◌, All, IfOk, length, map};
+ghost use Rattle.std.specs.Prelude.{◌≡◌, ◌<◌, All, IfOk, length};
 ghost use Rattle.halo_value.specs.ContractValues.{starts_of, values_at};
 
 use crate::Memory;

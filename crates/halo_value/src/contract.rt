@@ -1,11 +1,10 @@
 // The report of a contract with a number of lives.
-ghost use Rattle.std.specs.Prelude.{◌≡◌, ℕ, ◌^◌, ◌<◌, ◌≤◌, IfOk, length};
-ghost use Rattle.halo_table.specs.DecrementTable.{HasRow};
+ghost use Rattle.std.specs.Prelude.{◌≡◌, ◌^◌, IfOk, length};
 ghost use Rattle.halo_contract.specs.PlainContract.{contract_of};
 ghost use Rattle.halo_contract.specs.ValidContract.{IsValidContract};
-ghost use Rattle.halo_model.specs.Horizon.{life_at};
 ghost use Rattle.halo_lines.specs.Printable.{IsPrintableReport};
 ghost use Rattle.halo_lines.specs.Report.{EnclosesContract, report_of};
+ghost use Rattle.halo_value.specs.Setting.{declared, group_at_start};
 
 use crate::Memory;
 use crate::lines::report_lines;
@@ -13,7 +12,7 @@ use crate::lives::declared_lives;
 use crate::pass::ALL_LIVES;
 use crate::pays::{Setting, values_of_pays, values_of_premium};
 use halo_contract::{Contract, Ties};
-use halo_life::{Group, MOST_LIVES, Work};
+use halo_life::{Group, Work};
 use halo_lines::ValueReport;
 use halo_num::Steps;
 use halo_table::{Life, Tables};
@@ -35,7 +34,7 @@ pub fn report<const N: usize, const M: usize, L: Ledger>(
     ensures printable { IfOk result (λ report. IsPrintableReport (report_of report)) }
 {
     let lives = declared_lives(alloc, &contract.lives)?;
-    let group = group_of::<N>(tables, &lives, contract.ties);
+    let group = group_of::<N>(tables, contract, &lives);
     // The proof sees here that the tables are sound.
     let _start = group.start();
     let pays = contract.pays.as_slice();
@@ -51,27 +50,19 @@ pub fn report<const N: usize, const M: usize, L: Ledger>(
     report_lines(alloc, pays, reserves, &values, due, steps)
 }
 
-/// The lives at the start, all of them alive, with the rule for ties.
+/// The lives of a contract at the start, all of them alive, with its rule for ties.
 pub fn group_of<'a, const N: usize>(
     tables: &'a Tables,
+    contract: &Contract,
     lives: &'a [Life],
-    ties: Ties,
 ) -> Group<'a, N>
-    requires some { 1 ≤ N }
-    requires few { N ≤ MOST_LIVES }
-    requires count { length lives.now ≡ N }
-    requires rows { (i : ℕ) → i < N →
-        HasRow tables.now (life_at lives.now i).table (life_at lives.now i).age }
-    ensures { result ≡ record {
-      file = tables.now;
-      lives = lives.now;
-      start = 0;
-      alive = ALL_LIVES;
-      ties = ties;
-    } }
+    requires valid { IsValidContract tables.now (contract_of contract.now) }
+    requires count { length (contract_of contract.now).lives ≡ N }
+    requires lives { lives.now ≡ declared (contract_of contract.now).lives }
+    ensures { result ≡ group_at_start tables.now (contract_of contract.now) }
 {
     let group = Group::new(tables, lives, 0, ALL_LIVES);
-    match ties {
+    match contract.ties {
         Ties::Declared => group,
         Ties::Even => group.even(),
     }

@@ -92,7 +92,7 @@ fn explained<const N: usize, const M: usize, L: Ledger>(
     ensures printable { IfOk result (λ told. All (All (IsPrintablePart N)) (parts_of told.items)) }
 {
     let lives = declared_lives(alloc, &contract.lives)?;
-    let group = group_of::<N>(tables, &lives, contract.ties);
+    let group = group_of::<N>(tables, contract, &lives);
     let setting = Setting {
         group: &group,
         interest: &contract.interest,

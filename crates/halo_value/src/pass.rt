@@ -1,5 +1,5 @@
 // One pass over the years of a pay, from its horizon back to the start.
-ghost use Rattle.std.specs.Prelude.{◌≡◌, All, IfOk, pos, ◌≤ℤ◌};
+ghost use Rattle.std.specs.Prelude.{All, IfOk, pos, ◌≤ℤ◌};
 ghost use Rattle.halo_num.specs.Ends.{fine};
 ghost use Rattle.halo_status.specs.Pay.{pay_of};
 ghost use Rattle.halo_compile.specs.OfTask.{basis_of_task};

@@ -1,8 +1,7 @@
 // The values of the pays of a contract, and of its premium.
-ghost use Rattle.std.specs.Prelude.{◌≡◌, ℕ, ◌^◌, All, IfOk, map};
+ghost use Rattle.std.specs.Prelude.{◌≡◌, ◌^◌, All, IfOk, map};
 ghost use Rattle.std.specs.List.{AllZip};
 ghost use Rattle.std.specs.Option.{option_map};
-ghost use Rattle.halo_num.specs.Ends.{fine};
 ghost use Rattle.halo_status.specs.Pay.{pay_of};
 ghost use Rattle.halo_value.specs.PayValues.{AreValuesOf, ArePremiumValues, HasOne};
 ghost use Rattle.halo_value.specs.Reading.{CanBeRead};

@@ -1,5 +1,5 @@
 // The parts of an annuity: what each coefficient of its form adds to its value.
-ghost use Rattle.std.specs.Prelude.{◌≡◌, ◌≢◌, [], ◌∷◌, ◌<◌, All, IfOk, OnOk, length, map};
+ghost use Rattle.std.specs.Prelude.{◌≢◌, [], ◌∷◌, ◌<◌, All, IfOk, OnOk, length};
 ghost use Rattle.halo_sums.specs.Masks.{bits};
 ghost use Rattle.halo_status.specs.Pay.{pay_of};
 ghost use Rattle.halo_status.specs.declared.pay.Kind.TheVariants.{Insurance};

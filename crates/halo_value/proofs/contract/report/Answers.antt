@@ -1,83 +1,49 @@
 -- The parts of a valid contract are what the values ask for, and its basis is that of the values.
-use Rattle.std.proofs.Common.{◌≡◌, List, length, map, ap, lit<, sym, subst, ◌∙◌, arith}
+use Rattle.std.proofs.Common.{List, map, ap, lit<, sym, subst, ◌∙◌}
 use Rattle.std.specs.Prelude.{All}
-use Rattle.std.proofs.lemmas.List.{length-map}
 use Rattle.std.proofs.lemmas.Result.{IfOk-weaker}
 use Rattle.halo_status.specs.Pay.{pay_of}
 use Rattle.halo_status.specs.declared.pay.Pay.{Pay}
-use Rattle.halo_table.specs.DecrementTable.{HasRow}
-use Rattle.halo_table.specs.declared.lives.Life.{Life}
 use Rattle.halo_contract.specs.PlainContract.{PlainContract, contract_of}
-use Rattle.halo_contract.specs.declared.contract.LifeLine.{LifeLine}
 use Rattle.halo_contract.specs.declared.contract.ReserveLine.{ReserveLine}
 use Rattle.halo_model.specs.Basis.{Basis}
 use Rattle.halo_model.specs.ContractBasis.{contract_basis, premium_status}
-use Rattle.halo_model.specs.Horizon.{life_at}
 use Rattle.halo_lines.specs.Report.{report_of}
 use Rattle.halo_value.specs.ContractValues.{EnclosesReport}
 use Rattle.halo_value.specs.Reading.{CanBeRead}
-use Rattle.halo_value.specs.Setting.{CanBeValued}
-use Rattle.halo_value.proofs.OfContract.{basis-is, declared, group_at_start, group_with, pays-valued}
-use Rattle.halo_value.proofs.OfContract.{premium-asked, reserves-read, rows-at, values-are}
+use Rattle.halo_value.specs.Setting.{CanBeValued, declared}
+use Rattle.halo_value.proofs.OfContract.{basis-is, pays-valued, premium-asked, reserves-read, values-are}
 use Rattle.halo_value.proofs.contract.report.Goals as goal
 
 pub group_of-group-requires : goal.group_of-group-requires
 group_of-group-requires g c =
-    let contract : PlainContract = contract_of c.args.contract.now in
-    let lives : c.deref-2.result.now ≡ declared contract.lives =
-    c.deref-2.ensures.value ∙ c.in_ok-lives.ensures ∙ ap declared c.deref.ensures.value in
-    let count : length c.deref-2.result.now ≡ g.row.N =
-    ap length lives ∙ length-map contract.lives (λ (line : LifeLine). line.life) ∙ c.requires.lives in (
-      lit< tt,
-      (
-        omega (arith, c.requires.valid.some_lives, c.requires.lives),
-        (
-          omega (arith, c.requires.valid.few_lives, c.requires.lives),
-          (
-            count,
-            λ i below. subst (λ (ls : List Life). HasRow c.args.tables.now (life_at ls i).table (life_at ls i).age)
-                (sym lives) (rows-at c.args.tables.now contract c.requires.valid g.row.N c.requires.lives i below),
-          ),
-        ),
-      ),
-    )
+    let lives = c.deref-2.ensures.value ∙ c.in_ok-lives.ensures ∙ ap declared c.deref.ensures.value in
+    (lit< tt, (c.requires.valid, (c.requires.lives, lives)))
 
 pub values_of_pays-requires : goal.values_of_pays-requires
 values_of_pays-requires g c =
     let contract : PlainContract = contract_of c.args.contract.now in
-    let lives : c.deref-2.result.now ≡ declared contract.lives =
-    c.deref-2.ensures.value ∙ c.in_ok-lives.ensures ∙ ap declared c.deref.ensures.value in
-    let group : c.group_of-group.result ≡ group_at_start c.args.tables.now contract =
-    c.group_of-group.ensures ∙ ap (λ (ls : List Life). group_with c.args.tables.now ls contract.ties) lives in
     let pays = subst (λ (ps : List Pay). All (CanBeValued g.row.N) (map pay_of ps)) (sym c.as_slice-pays.ensures.value)
     (pays-valued c.args.tables.now contract c.requires.valid g.row.N c.requires.lives) in
     let reserves = subst (All (CanBeRead g.row.N c.group_of-group.result)) (sym c.as_slice-reserves.ensures.value)
-    (reserves-read c.args.tables.now contract c.requires.valid g.row.N c.requires.lives c.group_of-group.result group
-    c.start-start.ensures.group.sound) in
+    (reserves-read c.args.tables.now contract c.requires.valid g.row.N c.requires.lives c.group_of-group.result
+    c.group_of-group.ensures c.start-start.ensures.group.sound) in
     (lit< tt, (lit< tt, (c.requires.sets, (pays, reserves))))
 
 pub values_of_premium-requires : goal.values_of_premium-requires
 values_of_premium-requires g c =
     let contract : PlainContract = contract_of c.args.contract.now in
-    let lives : c.deref-2.result.now ≡ declared contract.lives =
-    c.deref-2.ensures.value ∙ c.in_ok-lives.ensures ∙ ap declared c.deref.ensures.value in
-    let group : c.group_of-group.result ≡ group_at_start c.args.tables.now contract =
-    c.group_of-group.ensures ∙ ap (λ (ls : List Life). group_with c.args.tables.now ls contract.ties) lives in
     let asked = premium-asked c.args.tables.now contract c.requires.valid g.row.N c.requires.lives in
     let reserves = subst (All (CanBeRead g.row.N c.group_of-group.result)) (sym c.as_slice-reserves.ensures.value)
-    (reserves-read c.args.tables.now contract c.requires.valid g.row.N c.requires.lives c.group_of-group.result group
-    c.start-start.ensures.group.sound) in
+    (reserves-read c.args.tables.now contract c.requires.valid g.row.N c.requires.lives c.group_of-group.result
+    c.group_of-group.ensures c.start-start.ensures.group.sound) in
     (lit< tt, (lit< tt, (c.requires.sets, (asked, reserves))))
 
 pub report_lines-requires : goal.report_lines-requires
 report_lines-requires g c =
     let contract : PlainContract = contract_of c.args.contract.now in
-    let lives : c.deref-2.result.now ≡ declared contract.lives =
-    c.deref-2.ensures.value ∙ c.in_ok-lives.ensures ∙ ap declared c.deref.ensures.value in
-    let group : c.group_of-group.result ≡ group_at_start c.args.tables.now contract =
-    c.group_of-group.ensures ∙ ap (λ (ls : List Life). group_with c.args.tables.now ls contract.ties) lives in
     let basis = basis-is c.args.tables.now contract c.requires.valid g.row.N c.requires.lives c.group_of-group.result
-    group in (
+    c.group_of-group.ensures in (
       contract_basis c.args.tables.now contract,
       (
         contract.premium,
@@ -93,12 +59,8 @@ returns-clause-encloses g c =
     let contract : PlainContract = contract_of c.args.contract.now in
     let b : Basis = contract_basis c.args.tables.now contract in
     let status = premium_status contract in
-    let lives : c.deref-2.result.now ≡ declared contract.lives =
-    c.deref-2.ensures.value ∙ c.in_ok-lives.ensures ∙ ap declared c.deref.ensures.value in
-    let group : c.group_of-group.result ≡ group_at_start c.args.tables.now contract =
-    c.group_of-group.ensures ∙ ap (λ (ls : List Life). group_with c.args.tables.now ls contract.ties) lives in
     let basis = basis-is c.args.tables.now contract c.requires.valid g.row.N c.requires.lives c.group_of-group.result
-    group in
+    c.group_of-group.ensures in
     let values = values-are c.args.tables.now contract c.requires.valid g.row.N c.requires.lives _ basis
     (map pay_of c.as_slice-pays.result.now) (ap (map pay_of) c.as_slice-pays.ensures.value)
     c.as_slice-reserves.result.now c.in_ok-values.values.items c.deref-3.result.now c.in_ok-due.due

@@ -10,7 +10,7 @@ use Rattle.halo_model.specs.FromTables.{lives_of}
 use Rattle.halo_table.specs.declared.lives.Life.{Life}
 use Rattle.halo_value.specs.Forms.{IsFormOn}
 use Rattle.halo_value.specs.Setting.{CanBeValued}
-use Rattle.halo_value.proofs.OfContract.{declared}
+use Rattle.halo_value.specs.Setting.{declared}
 use Rattle.halo_value.proofs.FormsOfContract.{have-sets, pays-compiled, premium-compiled, with-premium, without-premium}
 use Rattle.halo_value.proofs.forms.compiled_forms.Goals as goal
 use Rattle.halo_value.proofs.forms.compiled_forms.Goals.{in-Some+in_ok-form_of_pay+in_ok-push, in_default}
