@@ -71,7 +71,8 @@ module _ (pay : PlainPay) (run : Run) (times : ℕ) where
 
   pub run-most : (b : Basis) (n t years : ℕ) (s : List Bool) (i : Ends)
       → pay.amount ≡ 1 → HasValidVary pay.vary → times ≤ 2 ^ 11
-      → t + years ≤ 201 → EnclosesSet b n (paid_in pay run times) s t years i → IsWithin i (pos 0) (pos (MOST_PART * fine))
+      → t + years ≤ 201 → EnclosesSet b n (paid_in pay run times) s t years i
+      → IsWithin i (pos 0) (pos (MOST_PART * fine))
   run-most b n t years s i one varies few h worth =
       let most = most-small (paid_in pay run times) (201 * 2 ^ 11) years t (run-small one varies few) h in
       let few_ones : paid_in_all (paid_in pay run times) t years ≤ MOST_PART = omega (arith, most, h) in

@@ -31,4 +31,5 @@ module _ (names : List (List ℕ)) (p : List ℤ) where
       let before = map (bits n) (take i sets) in
       ap (terms_of names p) (map_more (bits n) sets i d more)
       ∙ flat_map-append (term_of names p) before (bits n set ∷ [])
-      ∙ ap (λ text. terms_of names p before ++ text) (append-nil (term_of names p (bits n set)) ∙ term_of-bits n set few)
+      ∙ ap (λ text. terms_of names p before ++ text)
+      (append-nil (term_of names p (bits n set)) ∙ term_of-bits n set few)

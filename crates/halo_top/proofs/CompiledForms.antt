@@ -11,7 +11,8 @@ use Rattle.halo_top.specs.Verdict.{IsTextOf}
 use Rattle.halo_top.specs.declared.command.Task.TheVariants as task
 
 -- lists that match have one length
-pub zip-length : {A B : Type 0} (R : A → B → Type 0) (xs : List A) (ys : List B) → AllZip R xs ys → length ys ≡ length xs
+pub zip-length : {A B : Type 0} (R : A → B → Type 0) (xs : List A) (ys : List B)
+    → AllZip R xs ys → length ys ≡ length xs
 zip-length R [] [] all = refl
 zip-length R (x ∷ xs) (y ∷ ys) all = ap suc (zip-length R xs ys all.1)
 zip-length R [] (y ∷ ys) all = absurd all

@@ -68,7 +68,8 @@ pub one-run-more : {m : ℕ} (pay : PlainPay) (n : ℕ) (form : List (Segment m)
 one-run-more pay n form place more =
     ap (annuity_parts pay n) (map_more run_of form place (record { from = 0; to = 0; poly = [] }) more)
     ∙ flat_map-append (run_parts pay n) (map run_of (take place form)) (run_of (segment_at form place) ∷ [])
-    ∙ ap (λ last. annuity_parts pay n (map run_of (take place form)) ++ last) (append-nil (run_parts pay n (run_of (segment_at form place))))
+    ∙ ap (λ last. annuity_parts pay n (map run_of (take place form)) ++ last)
+    (append-nil (run_parts pay n (run_of (segment_at form place))))
 
 -- the parts of an annuity of either kind
 pub annuity-parts-are : (kind : Kind) (b : Basis) (pay : PlainPay) (parts : List PayPart)

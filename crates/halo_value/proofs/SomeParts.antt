@@ -58,7 +58,8 @@ of-size (suc k) (suc n) = of-both (suc n) (map (λ s. true ∷ s) (sets_of_size 
 
 of-sizes : (n : ℕ) (sizes : List ℕ) → AreOf n (flat_map (λ k. sets_of_size k n) sizes)
 of-sizes n [] = tt
-of-sizes n (k ∷ sizes) = of-both n (sets_of_size k n) (flat_map (λ j. sets_of_size j n) sizes) (of-size k n) (of-sizes n sizes)
+of-sizes n (k ∷ sizes) =
+    of-both n (sets_of_size k n) (flat_map (λ j. sets_of_size j n) sizes) (of-size k n) (of-sizes n sizes)
 
 module _ (b : Basis) (pay : PlainPay) (positive : 1 ≤ denominator b 0 all_lives) where
   -- some parts are told
@@ -96,7 +97,8 @@ module _ (b : Basis) (pay : PlainPay) (positive : 1 ≤ denominator b 0 all_live
   told-runs : (runs : List Run) → Told (annuity_parts pay (length b.lives) runs)
   told-runs [] = ([], tt)
   told-runs (run ∷ runs) = told-both (parts_by_sets pay run (sets_in_order (length b.lives))) _
-      (told-sets run (sets_in_order (length b.lives)) (of-sizes (length b.lives) (numbers_from 0 (suc (length b.lives)))))
+      (told-sets run (sets_in_order (length b.lives))
+      (of-sizes (length b.lives) (numbers_from 0 (suc (length b.lives)))))
       (told-runs runs)
 
   told-lives : (lives : List ℕ) → Told (parts_on_lives pay.body lives)

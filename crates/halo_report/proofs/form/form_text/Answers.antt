@@ -20,6 +20,6 @@ returns g c =
           let form : form_at c.args.forms.now w.len-in-Some.result ≡ w.index-forms-len.result =
           read-at c.args.forms.now w.len-in-Some.result w.index-forms-len.result [] within w.index-forms-len.is in
           rw (w.in-Some.is, count, form)
-          (search (rules, written, w.in_ok-write_premium.ensures, w.text-is, w.deref-in-Some.ensures.value, w.deref-in-Some-2.ensures.value))
+          (search (rules, written, w.in_ok-write_premium.ensures, w.text-is, w.deref-in-Some-2.ensures.value))
       | in_default w ↦ search (rules, written)
     ]

@@ -13,7 +13,13 @@ form_text-requires g c =
     let contract = contract_of c.args.contract.now in
     let count = forms-count c.args.tables.now contract c.in_ok-forms.forms.items c.in_ok-forms.ensures in (
       lit< tt,
-      (c.requires.sets, (c.requires.valid.few_lives, (ap length c.deref.ensures.value ∙ count, spellable c.args.tables.now _ c.requires.valid))),
+      (
+        c.requires.sets,
+        (
+          c.requires.valid.few_lives,
+          (ap length c.deref.ensures.value ∙ count, spellable c.args.tables.now _ c.requires.valid),
+        ),
+      ),
     )
 
 pub returns : goal.returns

@@ -24,5 +24,6 @@ returns g c =
     let one = leaving-enclosed task c.requires.task c.start-start.ensures.group c.requires.start c.args.life
     c.on_life-value.result c.on_life-value.ensures.encloses in
     life-added g.row.N b pay c.args.life c.part_line-worth.result c.args.into.now.items c.push.new.self.items
-    (sym (c.lives.ensures c.args.life) ∙ sym c.has_bit.ensures ∙ c.if-not-has_bit.false) c.requires.life (c.part_line-worth.ensures.line b pay (on_life c.args.life) refl one)
+    (sym (c.lives.ensures c.args.life) ∙ sym c.has_bit.ensures ∙ c.if-not-has_bit.false) c.requires.life
+    (c.part_line-worth.ensures.line b pay (on_life c.args.life) refl one)
     c.part_line-worth.ensures.printable c.in_ok-push.ensures.items

@@ -13,7 +13,8 @@ loop-life-preserved g c =
     let task = c.args.task.now in
     let pay = pay_of task.pay.now in
     let here : 0 + c.loop-life.life ≡ c.loop-life.life = omega arith in
-    let more = numbers_from-add c.loop-life.life 1 0 ∙ ap (λ (n : ℕ). numbers_from 0 c.loop-life.life ++ n ∷ []) here in
-    rw (ap (parts_on_lives pay.body) more ∙ lives-then pay.body (numbers_from 0 c.loop-life.life) (c.loop-life.life ∷ []))
+    let past = numbers_from 0 c.loop-life.life in
+    let more = numbers_from-add c.loop-life.life 1 0 ∙ ap (λ (n : ℕ). past ++ n ∷ []) here in
+    rw (ap (parts_on_lives pay.body) more ∙ lives-then pay.body past (c.loop-life.life ∷ []))
     (adds-then g.row.N (basis_of_task task task.group.now.ties) pay _ _ c.args.into.now.items c.loop-life.into.items
     c.push_life.new.into.items c.loop-life.invariant c.in_ok-push_life.ensures)

@@ -18,5 +18,6 @@ returns g c =
     let one = end-enclosed task c.requires.task c.start-start.ensures.group c.requires.start c.args.years
     c.on_term-value.result c.on_term-value.ensures.encloses in
     term-added g.row.N b pay c.args.years c.part_line-worth.result c.args.into.now.items c.push.new.self.items
-    (sym c.has_term.ensures ∙ c.if-not-has_term.false) (c.part_line-worth.ensures.line b pay (on_term c.args.years) refl one)
+    (sym c.has_term.ensures ∙ c.if-not-has_term.false)
+    (c.part_line-worth.ensures.line b pay (on_term c.args.years) refl one)
     c.part_line-worth.ensures.printable c.in_ok-push.ensures.items

@@ -15,9 +15,9 @@ loop-before-preserved g c =
     let task = c.args.task.now in
     let pay = pay_of task.pay.now in
     let next : 1 + c.loop-before.before ≡ c.loop-before.before + 1 = omega arith in
-    let more = numbers_from-add c.loop-before.before 1 1 ∙ ap (λ (n : ℕ). numbers_from 1 c.loop-before.before ++ n ∷ []) next in
-    rw (ap (parts_on_terms pay.body) more
-    ∙ terms-then pay.body (numbers_from 1 c.loop-before.before) ((c.loop-before.before + 1) ∷ []))
+    let past = numbers_from 1 c.loop-before.before in
+    let more = numbers_from-add c.loop-before.before 1 1 ∙ ap (λ (n : ℕ). past ++ n ∷ []) next in
+    rw (ap (parts_on_terms pay.body) more ∙ terms-then pay.body past ((c.loop-before.before + 1) ∷ []))
     (adds-then g.row.N (basis_of_task task task.group.now.ties) pay _ _ c.args.into.now.items
     c.loop-before.into.items c.push_term.new.into.items c.loop-before.invariant c.in_ok-push_term.ensures)
 

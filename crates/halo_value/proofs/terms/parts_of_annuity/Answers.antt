@@ -27,7 +27,8 @@ returns-clause-explains g c =
     let count : length b.lives ≡ g.row.N = count-lives task.group.now ∙ c.start-start.ensures.group.count in
     let all = take_all c.loop-segment.segment task.form.now
     (omega (arith, c.loop-segment-test.false, ap length c.segments-segment-end.ensures)) in
-    let told = subst (λ fs. AllZip (TellsPart b pay) (annuity_parts pay g.row.N (map run_of fs)) c.loop-segment.parts.items)
+    let told = subst
+    (λ fs. AllZip (TellsPart b pay) (annuity_parts pay g.row.N (map run_of fs)) c.loop-segment.parts.items)
     all (c.loop-segment.invariant.tells [] tt) in (
       annuity_parts pay g.row.N (map run_of task.form.now),
       annuity-parts-are pay.kind b pay _ c.requires.annuity (

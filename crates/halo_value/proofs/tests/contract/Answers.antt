@@ -1,11 +1,11 @@
 -- The contract is valid, part by part.
-use Rattle.std.proofs.Common.{◌≡◌, ℕ, zero, suc, ◌+◌, ◌<◌, ◌≤◌, true, List, [], ◌∷◌}
-use Rattle.std.proofs.Common.{◌++◌, Some, None, lit≤, lit<, map, ap, refl, rules, ◌∙◌, sym, arith}
+use Rattle.std.proofs.Common.{◌≡◌, ℕ, zero, suc, true, List, [], ◌∷◌}
+use Rattle.std.proofs.Common.{◌++◌, Some, None, lit≤, lit<, map, ap, refl, rules, ◌∙◌, arith}
 use Rattle.std.specs.Prelude.{slice_get}
 use Rattle.std.proofs.lemmas.List.Elements.{All-cons, All-nil}
 use Rattle.halo_sums.specs.Masks.{has_bit}
 use Rattle.halo_interest.specs.Rates.{IsInterest}
-use Rattle.halo_status.specs.Naming.{NamesLivesBelow, names_life}
+use Rattle.halo_status.specs.Naming.{NamesLivesBelow}
 use Rattle.halo_status.specs.Pay.{PlainPay, pay_of}
 use Rattle.halo_status.specs.Tree.{Tree, last, life, more, none}
 use Rattle.halo_status.specs.ValidPay.{IsValidPay}
@@ -15,7 +15,7 @@ use Rattle.halo_status.specs.declared.pay.Kind.TheVariants.{Due, Insurance}
 use Rattle.halo_status.specs.declared.pay.Vary.TheVariants.{Level}
 use Rattle.halo_table.specs.DecrementTable.{HasRow, TableFile}
 use Rattle.halo_contract.specs.PlainContract.{PlainContract}
-use Rattle.halo_contract.specs.ValidContract.{CanBeAlive, IsValidAmong, IsValidContract, IsValidPremium, IsValidReserve}
+use Rattle.halo_contract.specs.ValidContract.{CanBeAlive, IsValidAmong, IsValidContract, IsValidReserve}
 use Rattle.halo_contract.specs.declared.contract.LifeLine.{LifeLine}
 use Rattle.halo_contract.specs.declared.contract.ReserveLine.{ReserveLine}
 use Rattle.halo_value.proofs.tests.contract.Goals as goal
