@@ -1,5 +1,5 @@
 // The chance of one set of lives.
-ghost use Rattle.std.specs.Prelude.{◌≡◌, ℕ, ◌+◌, ◌*◌, ◌<◌, ◌≤◌, cond, pos};
+ghost use Rattle.std.specs.Prelude.{ℕ, ◌+◌, ◌*◌, ◌<◌, ◌≤◌, cond, pos};
 ghost use Rattle.halo_sums.specs.Masks.{bits, has_bit};
 ghost use Rattle.halo_sums.specs.Sets.{size_of};
 ghost use Rattle.halo_num.specs.Chance.{EnclosesChance};

@@ -1,6 +1,6 @@
 // Payments to the sets of named lives, one set after the other.
-ghost use Rattle.std.specs.Prelude.{◌≡◌, ◌≢◌, ℕ, ◌*◌, ◌^◌, ◌<◌, ◌≤◌, false, true, pos};
-ghost use Rattle.halo_num.specs.Ends.{IsSized, IsWithin};
+ghost use Rattle.std.specs.Prelude.{◌≡◌, ◌≢◌, ℕ, ◌*◌, ◌<◌, ◌≤◌, false, true};
+ghost use Rattle.halo_num.specs.Ends.{IsSized};
 ghost use Rattle.halo_life.specs.Lists.{entry, nothing};
 ghost use Rattle.halo_life.specs.Total.{AreModest, AreModestAt};
 ghost use Rattle.halo_sums.specs.Within.{is_within};

@@ -1,9 +1,9 @@
 // The parts of an annuity: what one coefficient of one segment is worth.
-ghost use Rattle.std.specs.Prelude.{◌≡◌, ◌≢◌, suc, ◌+◌, ◌-◌, ◌*◌, ◌<◌, ◌≤◌, length, neg_ℤ, pos};
+ghost use Rattle.std.specs.Prelude.{◌≢◌, suc, ◌+◌, ◌-◌, ◌*◌, ◌<◌, ◌≤◌, length, neg_ℤ, pos};
 ghost use Rattle.halo_num.specs.Ends.{IsWithin, fine};
 ghost use Rattle.halo_status.specs.declared.pay.Kind.TheVariants.{Insurance};
 ghost use Rattle.halo_status.specs.Pay.{pay_of};
-ghost use Rattle.halo_compile.specs.Form.{IsInForm, segment_at};
+ghost use Rattle.halo_compile.specs.Form.{IsInForm};
 ghost use Rattle.halo_compile.specs.ValidTask.{IsTask};
 ghost use Rattle.halo_annuity.specs.Bounds.{IsWithinCount, IsWithinWeightedMost};
 ghost use Rattle.halo_annuity.specs.RunWorth.{EnclosesPart, EnclosesRun, run_from};

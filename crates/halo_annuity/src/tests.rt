@@ -1,5 +1,5 @@
 // Worked values of annuities on three lives aged 60 in one table, with the interest 1/1.
-ghost use Rattle.std.specs.Prelude.{◌≡◌, ◌≢◌, ℕ, ◌≤◌, ◌<◌, ◌∷◌, [], IfOk};
+ghost use Rattle.std.specs.Prelude.{◌≡◌, ◌≢◌, ◌≤◌, ◌<◌, ◌∷◌, [], IfOk};
 ghost use Rattle.halo_status.specs.Naming.{NamesLivesBelow};
 ghost use Rattle.halo_status.specs.Nodes.{AtEachNode, HasShortLists, nodes};
 ghost use Rattle.halo_status.specs.Pay.{pay_of};

@@ -1,5 +1,5 @@
 // What is due for a set of lives at the end of a year, by the coefficients of its form.
-ghost use Rattle.std.specs.Prelude.{◌≡◌, ◌+◌, ◌-◌, ◌*◌, ◌≤◌, ◌&&◌, cond, nat_le, pos, ◌-ℤ◌};
+ghost use Rattle.std.specs.Prelude.{◌≡◌, ◌+◌, ◌-◌, ◌*◌, ◌≤◌, cond, nat_le, ◌-ℤ◌};
 ghost use Rattle.halo_num.specs.Ends.{IsSized};
 ghost use Rattle.halo_model.specs.Backward.{above_zero, below_zero};
 ghost use Rattle.halo_model.specs.Payment.{factor};

@@ -5,7 +5,6 @@ ghost use Rattle.halo_compile.specs.ValidTask.{IsTask};
 ghost use Rattle.halo_insure.specs.Events.{AreEventsOf, events_of};
 ghost use Rattle.halo_compile.specs.NamedSets.{products_of_pass};
 ghost use Rattle.halo_insure.specs.OfTask.{HoldDuesOn};
-ghost use Rattle.halo_life.specs.Total.{AreModest};
 
 use crate::events::{Events, counted_lives, end_counts};
 use crate::step::{at_horizon, carry_back};

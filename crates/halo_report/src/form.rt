@@ -1,7 +1,6 @@
 // The text of the command `compile`.
 ghost use Rattle.std.specs.Prelude.{◌≡◌, ◌++◌, ◌+◌, ◌-◌, ◌^◌, ◌<◌, ◌≤◌, All, IfOk, OnOk, codes, length, map};
 ghost use Rattle.halo_sums.specs.Masks.{bits};
-ghost use Rattle.halo_poly.specs.Poly.{AreCoefficients};
 ghost use Rattle.halo_status.specs.Naming.{NamesLivesBelow};
 ghost use Rattle.halo_status.specs.Pay.{pay_of};
 ghost use Rattle.halo_status.specs.StatusTree.{tree_of};

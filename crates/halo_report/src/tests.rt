@@ -1,5 +1,5 @@
 // Texts of small data: a report, the columns of three ages, compiled forms, and parts of pays.
-ghost use Rattle.std.specs.Prelude.{◌≡◌, ◌<◌, ◌≤◌, All, IfOk, length, pos, ◌≤ℤ◌};
+ghost use Rattle.std.specs.Prelude.{◌≡◌, ◌<◌, All, IfOk, length};
 ghost use Rattle.halo_contract.specs.PlainContract.{contract_of};
 ghost use Rattle.halo_lines.specs.Printable.{IsPrintable};
 ghost use Rattle.halo_lines.specs.Parts.{IsPrintablePart, parts_of};

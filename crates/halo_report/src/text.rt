@@ -1,7 +1,6 @@
 // The parts of a line.
-ghost use Rattle.std.specs.Prelude.{◌≡◌, ◌++◌, OnOk, codes};
+ghost use Rattle.std.specs.Prelude.{◌≡◌, ◌++◌, OnOk};
 ghost use Rattle.std.specs.Fmt.{decimal};
-ghost use Rattle.halo_spell.specs.Decimal.{decimal_of};
 ghost use Rattle.halo_lines.specs.Printable.{IsPrintable};
 ghost use Rattle.halo_report.specs.Lines.{ends_text};
 
