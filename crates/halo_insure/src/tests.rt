@@ -10,7 +10,9 @@ ghost use Rattle.halo_table.specs.DecrementTable.{HasRow};
 ghost use Rattle.halo_model.specs.Horizon.{HasShortTerms};
 ghost use Rattle.halo_compile.specs.ValidTask.{IsTask};
 
-use crate::{at_horizon, contingent, insurance, on_life, on_term, value_at, year_back};
+use crate::{
+    at_horizon, contingent, insurance, insurance_all, on_life, on_term, value_at, year_back,
+};
 use halo_compile::{Task, compile};
 use halo_interest::{Interest, LAST_TIME};
 use halo_life::{Group, Work};
@@ -225,6 +227,81 @@ fn table(rt: &impl Abort, alloc: Global, text: &[u8]) -> Result<Tables, Fail>
     Ok(tables)
 }
 
+// Eight lives, in their order.
+fn eight(alloc: Global) -> Result<Members, Fail>
+    ensures { IfOk result (λ members. members ≡
+        Status.Life 0 ∷ Status.Life 1 ∷ Status.Life 2 ∷ Status.Life 3
+        ∷ Status.Life 4 ∷ Status.Life 5 ∷ Status.Life 6 ∷ Status.Life 7 ∷ []) }
+{
+    let mut members = Members::new(alloc, Status::Life(0))?;
+    members.push(Status::Life(1))?;
+    members.push(Status::Life(2))?;
+    members.push(Status::Life(3))?;
+    members.push(Status::Life(4))?;
+    members.push(Status::Life(5))?;
+    members.push(Status::Life(6))?;
+    members.push(Status::Life(7))?;
+    Ok(members)
+}
+
+// An insurance of 1 on the first of eight lives that dies, if none lapses before.
+#[tactic(auto, using(halo_status::proofs::Shapes::shapes))]
+fn first_death_of_eight(alloc: Global) -> Result<Pay, Fail>
+    ensures { IfOk result (λ pay. IsValidPay (pay_of pay) × NamesLivesBelow 8 (pay_of pay).body
+        × HasShortTerms (pay_of pay).body × (pay.kind ≡ Insurance)) }
+{
+    Ok(Pay {
+        amount: 1,
+        vary: Vary::Level,
+        kind: Kind::Insurance,
+        defer: 0,
+        causes: Some(0b01),
+        body: Status::Joint(eight(alloc)?),
+        mark: None,
+    })
+}
+
+// One pass tells of each set of eight lives what a pass for that set alone tells.
+fn assert_all_sets<L: Ledger>(
+    rt: &impl Abort,
+    alloc: Global,
+    tables: &Tables,
+    interest: &Interest,
+    steps: &mut Steps<L>,
+) -> Result<(), Fail>
+    requires row { HasRow tables.now 0 60 }
+{
+    let pay = first_death_of_eight(alloc)?;
+    let lives = [LIFE, LIFE, LIFE, LIFE, LIFE, LIFE, LIFE, LIFE];
+    let horizon = horizon(&pay.body, tables, &lives);
+    let form = compile::<256>(alloc, &pay, horizon)?;
+    let mut work = Work::<256>::new(alloc)?;
+    let all = Group::<8>::new(tables, &lives, 0, 0xff);
+    let task = Task {
+        pay: &pay,
+        form: &form,
+        group: &all,
+        interest,
+        horizon,
+    };
+    insurance_all(&task, &mut work, steps);
+    let mut alone = Work::<256>::new(alloc)?;
+    for alive in 0..256_u16 {
+        let group = Group::<8>::new(tables, &lives, 0, alive);
+        let task = Task {
+            group: &group,
+            ..task
+        };
+        let value = contingent(&task, &mut alone, steps);
+        let total = work.total(alive & pay.body.lives());
+        assert!(rt;
+            total.lo() <= value.hi() && value.lo() <= total.hi(),
+            "of set {alive}"
+        );
+    }
+    Ok(())
+}
+
 // By any cause.
 fn assert_by_any<L: Ledger>(
     rt: &impl Abort,
@@ -382,6 +459,7 @@ fn assert_worked<L: Ledger>(rt: &impl Abort, alloc: Global, blank: Blank) -> Res
     assert_parts(rt, alloc, &group, &interest, &mut steps)?;
     assert_marked(rt, alloc, &group, &interest, &mut steps)?;
     assert_by_years(rt, alloc, &group, &mut steps)?;
+    assert_all_sets(rt, alloc, &with_lapses, &interest, &mut steps)?;
     assert_even(rt, alloc, &group.even(), &interest, &mut steps)
 }
 
