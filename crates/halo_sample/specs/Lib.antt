@@ -1,0 +1,5 @@
+-- The definitions that the contracts of the sample cite.
+pub mod Generator
+pub mod Tables
+pub mod Contract
+pub mod Sample
