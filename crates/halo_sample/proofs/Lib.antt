@@ -1,2 +1,3 @@
 mod Draws
 mod OneByOne
+mod SampleTables

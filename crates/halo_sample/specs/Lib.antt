@@ -3,3 +3,4 @@ pub mod Generator
 pub mod Tables
 pub mod Contract
 pub mod Sample
+pub mod Laws

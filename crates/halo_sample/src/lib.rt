@@ -6,6 +6,7 @@
 mod contract;
 mod files;
 mod generator;
+pub mod laws;
 mod tables;
 #[cfg(test)]
 mod tests;

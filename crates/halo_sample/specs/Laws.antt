@@ -1,0 +1,34 @@
+-- What holds of the rows of every table of a sample.
+use Rattle.std.specs.Prelude.{ℕ, ◌≡◌, ◌+◌, ◌*◌, ◌<◌, ◌≤◌, List, get_or, length}
+use Rattle.halo_sample.specs.declared.tables.Row.{Row}
+use Rattle.halo_sample.specs.declared.tables.TheConstants.{LAST_AGE, RADIX}
+use Rattle.halo_sample.specs.Tables.{last_row, staying, table_rows}
+
+-- the row of an age
+abbrev pub row_at : List Row → ℕ → Row
+row_at rows x = get_or rows x (last_row 0)
+
+-- all who leave in the year of a row
+abbrev pub leavers : Row → ℕ
+leavers row = row.deaths + row.lapses
+
+-- more than so many are alive at each age
+abbrev pub FEWEST : ℕ
+FEWEST = 1_000_000
+
+-- rows with one for each age, from all at age 0 on; who does not leave is alive at the next age.
+-- Before the last age fewer than one twentieth leave, and at the last age all do
+pub record IsSampleTable (rows : List Row) : Type 0 where
+  pub count : length rows ≡ LAST_AGE + 1
+  pub age : (x : ℕ) → x ≤ LAST_AGE → (row_at rows x).age ≡ x
+  pub first : (row_at rows 0).alive ≡ RADIX
+  pub next : (x : ℕ) → x < LAST_AGE → (row_at rows (x + 1)).alive ≡ staying (row_at rows x)
+  pub falls : (x : ℕ) → x < LAST_AGE → (row_at rows (x + 1)).alive ≤ (row_at rows x).alive
+  pub few : (x : ℕ) → x < LAST_AGE → leavers (row_at rows x) * 20 < (row_at rows x).alive
+  pub many : (x : ℕ) → x ≤ LAST_AGE → FEWEST < (row_at rows x).alive
+  pub most : (x : ℕ) → x ≤ LAST_AGE → (row_at rows x).alive ≤ RADIX
+  pub last : leavers (row_at rows LAST_AGE) ≡ (row_at rows LAST_AGE).alive
+
+-- the rows of a table are such, whatever the state from which they are drawn
+abbrev pub TablesAreSound : Type 0
+TablesAreSound = (s : ℕ) → IsSampleTable (table_rows s)
