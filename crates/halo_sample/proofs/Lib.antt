@@ -1,3 +1,4 @@
 mod Draws
 mod OneByOne
 mod SampleTables
+mod SampleRecords

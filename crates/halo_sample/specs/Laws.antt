@@ -1,7 +1,9 @@
--- What holds of the rows of every table of a sample.
-use Rattle.std.specs.Prelude.{ℕ, ◌≡◌, ◌+◌, ◌*◌, ◌<◌, ◌≤◌, List, get_or, length}
+-- What holds of the tables file of every sample.
+use Rattle.std.specs.Prelude.{ℕ, ◌≡◌, ◌+◌, ◌*◌, ◌<◌, ◌≤◌, List, flat_map, get_or, length}
 use Rattle.halo_sample.specs.declared.tables.Row.{Row}
 use Rattle.halo_sample.specs.declared.tables.TheConstants.{LAST_AGE, RADIX}
+use Rattle.halo_sample.specs.Records.{record_line, sample_records}
+use Rattle.halo_sample.specs.Sample.{sample_tables}
 use Rattle.halo_sample.specs.Tables.{last_row, staying, table_rows}
 
 -- the row of an age
@@ -32,3 +34,7 @@ pub record IsSampleTable (rows : List Row) : Type 0 where
 -- the rows of a table are such, whatever the state from which they are drawn
 abbrev pub TablesAreSound : Type 0
 TablesAreSound = (s : ℕ) → IsSampleTable (table_rows s)
+
+-- the tables file is the lines of its records
+abbrev pub TablesAreRecords : Type 0
+TablesAreRecords = (number : ℕ) → sample_tables number ≡ flat_map record_line (sample_records number)

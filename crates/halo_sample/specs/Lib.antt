@@ -3,4 +3,5 @@ pub mod Generator
 pub mod Tables
 pub mod Contract
 pub mod Sample
+pub mod Records
 pub mod Laws
