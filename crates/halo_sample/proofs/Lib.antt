@@ -2,3 +2,4 @@ mod Draws
 mod OneByOne
 mod SampleTables
 mod SampleRecords
+mod SampleWords

@@ -5,11 +5,11 @@ use Rattle.std.proofs.Math.Nat.{mul-le-mul_left}
 use Rattle.halo_sample.specs.declared.tables.Row.{Row}
 use Rattle.halo_sample.specs.declared.tables.TheConstants.{DEATH_PARTS, LAPSE_PARTS, LAST_AGE, RADIX}
 use Rattle.halo_sample.specs.Generator.{drawn, drawn_second, next_state, state_behind_two}
-use Rattle.halo_sample.specs.Laws.{FEWEST, TablesAreSound, leavers, row_at}
+use Rattle.halo_sample.specs.Laws.{DrawsAreBelow, FEWEST, TablesAreSound, leavers, row_at}
 use Rattle.halo_sample.specs.Tables.{drawn_row, rows_from, staying, table_rows}
 
 -- what is drawn is below its bound
-drawn-below : (n s : ℕ) → 0 < n → drawn n s < n
+pub drawn-below : DrawsAreBelow
 unfolding drawn
 drawn-below n s some = mod_below (next_state s / 2 ^ 33) n some
 

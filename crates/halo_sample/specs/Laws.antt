@@ -1,10 +1,12 @@
--- What holds of the tables file of every sample.
+-- What holds of the files of every sample.
 use Rattle.std.specs.Prelude.{ℕ, ◌≡◌, ◌+◌, ◌*◌, ◌<◌, ◌≤◌, List, flat_map, get_or, length}
 use Rattle.halo_sample.specs.declared.tables.Row.{Row}
 use Rattle.halo_sample.specs.declared.tables.TheConstants.{LAST_AGE, RADIX}
 use Rattle.halo_sample.specs.Records.{record_line, sample_records}
-use Rattle.halo_sample.specs.Sample.{sample_tables}
+use Rattle.halo_sample.specs.Sample.{sample_contract, sample_tables}
 use Rattle.halo_sample.specs.Tables.{last_row, staying, table_rows}
+use Rattle.halo_sample.specs.Generator.{drawn}
+use Rattle.halo_sample.specs.Words.{sample_words, word_line}
 
 -- the row of an age
 abbrev pub row_at : List Row → ℕ → Row
@@ -37,4 +39,13 @@ TablesAreSound = (s : ℕ) → IsSampleTable (table_rows s)
 
 -- the tables file is the lines of its records
 abbrev pub TablesAreRecords : Type 0
-TablesAreRecords = (number : ℕ) → sample_tables number ≡ flat_map record_line (sample_records number)
+TablesAreRecords = (number : ℕ)
+    → sample_tables number ≡ flat_map record_line (sample_records number)
+
+-- the contract file is the lines of its words
+abbrev pub ContractIsWords : Type 0
+ContractIsWords = (number : ℕ) → sample_contract number ≡ flat_map word_line (sample_words number)
+
+-- a number that is drawn below n is below n
+abbrev pub DrawsAreBelow : Type 0
+DrawsAreBelow = (n s : ℕ) → 0 < n → drawn n s < n

@@ -4,4 +4,5 @@ pub mod Tables
 pub mod Contract
 pub mod Sample
 pub mod Records
+pub mod Words
 pub mod Laws
