@@ -3,3 +3,4 @@ mod OneByOne
 mod SampleTables
 mod SampleRecords
 mod SampleWords
+mod RecordsByPlace

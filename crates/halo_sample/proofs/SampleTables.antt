@@ -49,10 +49,10 @@ unfolding rows_from
 first-alive zero x l s = refl
 first-alive (suc left) x l s = refl
 
-count : (left x l s : ℕ) → length (rows_from left x l s) ≡ left + 1
+pub row-count : (left x l s : ℕ) → length (rows_from left x l s) ≡ left + 1
 unfolding rows_from
-count zero x l s = refl
-count (suc left) x l s = omega (arith, count left (suc x) (staying (drawn_row x l s)) (state_behind_two s))
+row-count zero x l s = refl
+row-count (suc left) x l s = omega (arith, row-count left (suc x) (staying (drawn_row x l s)) (state_behind_two s))
 
 holds-at : (left x l s i : ℕ) → i ≤ left → x + left ≡ LAST_AGE → enough left < l
     → HoldsAt (rows_from left x l s) x l left i
@@ -102,7 +102,7 @@ tables-are-sound s =
     = λ x before.
     let one : x + 1 ≡ suc x = omega arith in rw one ((at x (omega (arith, before))).next before) in
     record {
-      count = count LAST_AGE 0 RADIX s;
+      count = row-count LAST_AGE 0 RADIX s;
       age = λ x within. omega (arith, (at x within).age);
       first = first-alive LAST_AGE 0 RADIX s;
       next = next;

@@ -1,11 +1,11 @@
 -- What holds of the files of every sample.
-use Rattle.std.specs.Prelude.{ℕ, ◌≡◌, ◌+◌, ◌*◌, ◌<◌, ◌≤◌, List, flat_map, get_or, length}
+use Rattle.std.specs.Prelude.{ℕ, ◌≡◌, ◌+◌, ◌*◌, ◌<◌, ◌≤◌, List, [], flat_map, get_or, length}
 use Rattle.halo_sample.specs.declared.tables.Row.{Row}
-use Rattle.halo_sample.specs.declared.tables.TheConstants.{LAST_AGE, RADIX}
-use Rattle.halo_sample.specs.Records.{record_line, sample_records}
+use Rattle.halo_sample.specs.declared.tables.TheConstants.{LAST_AGE, RADIX, TABLES}
+use Rattle.halo_sample.specs.Records.{record_line, row_fields, sample_records}
 use Rattle.halo_sample.specs.Sample.{sample_contract, sample_tables}
 use Rattle.halo_sample.specs.Tables.{last_row, staying, table_rows}
-use Rattle.halo_sample.specs.Generator.{drawn}
+use Rattle.halo_sample.specs.Generator.{drawn, state_behind_pairs}
 use Rattle.halo_sample.specs.Words.{sample_words, word_line}
 
 -- the row of an age
@@ -41,6 +41,17 @@ TablesAreSound = (s : ℕ) → IsSampleTable (table_rows s)
 abbrev pub TablesAreRecords : Type 0
 TablesAreRecords = (number : ℕ)
     → sample_tables number ≡ flat_map record_line (sample_records number)
+
+-- it has so many records
+abbrev pub RecordsAreCounted : Type 0
+RecordsAreCounted = (number : ℕ)
+    → length (sample_records number) ≡ TABLES * (LAST_AGE + 1) + 1
+
+-- and behind record 1 stand those of the rows, table by table and age by age
+abbrev pub RecordsAreRows : Type 0
+RecordsAreRows = (number table x : ℕ) → table < TABLES → x ≤ LAST_AGE
+    → get_or (sample_records number) (table * (LAST_AGE + 1) + x + 1) []
+    ≡ row_fields table (row_at (table_rows (state_behind_pairs (table * LAST_AGE) number)) x)
 
 -- the contract file is the lines of its words
 abbrev pub ContractIsWords : Type 0
