@@ -3,4 +3,4 @@ mod Discounted
 mod OneByOne
 mod Sums
 mod SummedColumns
-mod SomeColumns
+pub mod SomeColumns

@@ -4,7 +4,7 @@ use Rattle.std.specs.Prelude.{IfSome}
 use Rattle.halo_table.specs.DecrementTable.{TableFile}
 use Rattle.halo_contract.specs.PlainContract.{PlainContract}
 use Rattle.halo_top.specs.Input.{HasContract, HasTables}
-use Rattle.halo_top.specs.Verdict.{IsAnswer, IsTextOf, Shelved}
+use Rattle.halo_top.specs.Verdict.{IsContractAnswer, IsTextOf, Shelved}
 use Rattle.halo_top.specs.declared.command.Task.{Task}
 use Rattle.halo_top.proofs.Told.{told}
 
@@ -18,7 +18,7 @@ module _ (t : Task) (shelf : Shelved) (tables_name contract_name : List ℕ) (ta
     (contract : PlainContract) where
   -- what a task writes of the contract that was loaded, it writes of the files
   pub answers_files : AreLoaded shelf tables_name contract_name tables bytes → HasContract tables bytes contract
-      → (text : List ℕ) → IsTextOf t tables contract text → IsAnswer t shelf tables_name contract_name text
+      → (text : List ℕ) → IsTextOf t tables contract text → IsContractAnswer t shelf tables_name contract_name text
   answers_files loaded has text is = record {
     tables = tables;
     contract = contract;

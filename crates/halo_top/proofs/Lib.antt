@@ -1,3 +1,4 @@
+mod Arguments
 mod Calls
 mod CompiledForms
 mod Files

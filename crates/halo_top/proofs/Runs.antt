@@ -16,12 +16,13 @@ module _ (words : List (List ℕ)) (shelf : Shelved) where
 
   -- and the words are a command, or it is 2
   of-usage : (called : ℕ) (text : List ℕ) → CallsFor words shelf called text → (IsCommand words → ⊥) → called ≡ 2
-  of-usage called text (inl (e, (t, a, b, asks, _))) none = absurd (none (t, a, b, asks))
+  of-usage called text (inl (e, (request, asks, _))) none = absurd (none (request, asks))
   of-usage called text (inr (refusal.Usage, refused, e, f)) none = e
-  of-usage called text (inr (refusal.Read x, (t, a, b, asks, _), e, f)) none = absurd (none (t, a, b, asks))
-  of-usage called text (inr (refusal.TooLong x, (t, a, b, asks, _), e, f)) none = absurd (none (t, a, b, asks))
-  of-usage called text (inr (refusal.Table x, (t, a, b, asks, _), e, f)) none = absurd (none (t, a, b, asks))
-  of-usage called text (inr (refusal.Contract x, (t, a, b, asks, _), e, f)) none = absurd (none (t, a, b, asks))
+  of-usage called text (inr (refusal.Read x, (request, asks, _), e, f)) none = absurd (none (request, asks))
+  of-usage called text (inr (refusal.TooLong x, (request, asks, _), e, f)) none = absurd (none (request, asks))
+  of-usage called text (inr (refusal.Table x, (request, asks, _), e, f)) none = absurd (none (request, asks))
+  of-usage called text (inr (refusal.Contract x, (request, asks, _), e, f)) none = absurd (none (request, asks))
+  of-usage called text (inr (refusal.Argument x, (request, asks, _), e, f)) none = absurd (none (request, asks))
 
 -- what a write of a text with its status comes to
 pub record Writes (sink : Sunk) (called : ℕ) (text : List ℕ) (status : ℕ) : Type 0 where

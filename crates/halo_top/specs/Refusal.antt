@@ -5,6 +5,8 @@ use Rattle.halo_parse.specs.declared.fault.ContractKind.{ContractKind}
 use Rattle.halo_parse.specs.declared.fault.ContractKind.TheVariants as wrong
 use Rattle.halo_table.specs.declared.fault.TableKind.{TableKind}
 use Rattle.halo_table.specs.declared.fault.TableKind.TheVariants as kind
+use Rattle.halo_top.specs.declared.refusal.ArgumentKind.{ArgumentKind}
+use Rattle.halo_top.specs.declared.refusal.ArgumentKind.TheVariants as argument
 use Rattle.halo_top.specs.declared.refusal.InputFile.{InputFile}
 use Rattle.halo_top.specs.declared.refusal.InputFile.TheVariants as file
 use Rattle.halo_top.specs.declared.refusal.Refusal.{Refusal}
@@ -47,6 +49,13 @@ contract_kind_word wrong.NotAtStart = codes "NotAtStart"
 contract_kind_word wrong.NotAlive = codes "NotAlive"
 contract_kind_word wrong.Missing = codes "Missing"
 
+-- the word for what is wrong with the arguments of `columns`
+abbrev pub argument_word : ArgumentKind → List ℕ
+argument_word argument.Syntax = codes "Syntax"
+argument_word argument.Magnitude = codes "Magnitude"
+argument_word argument.Zero = codes "Zero"
+argument_word argument.NoTable = codes "NoTable"
+
 -- the line that a refusal writes, without its line feed: the fault of a file is told with the
 -- number of the record or the line, from 1
 abbrev pub words_of : Refusal → List ℕ
@@ -57,6 +66,7 @@ words_of (refusal.Table fault) =
     codes "tables record " ++ decimal fault.row ++ codes " " ++ kind_word fault.kind
 words_of (refusal.Contract fault) =
     codes "contract line " ++ decimal fault.line ++ codes " " ++ contract_kind_word fault.kind
+words_of (refusal.Argument k) = codes "argument " ++ argument_word k
 
 -- the line that a refusal writes
 abbrev pub line_of : Refusal → List ℕ
@@ -68,6 +78,13 @@ contract_status wrong.Syntax = 6
 contract_status wrong.Magnitude = 8
 contract_status _ = 7
 
+-- the status of a fault of the arguments of `columns`
+abbrev pub argument_status : ArgumentKind → ℕ
+argument_status argument.Syntax = 6
+argument_status argument.Magnitude = 8
+argument_status argument.Zero = 7
+argument_status argument.NoTable = 7
+
 -- the status of a refusal
 abbrev pub status_of : Refusal → ℕ
 status_of refusal.Usage = 2
@@ -75,3 +92,4 @@ status_of (refusal.Read _) = 3
 status_of (refusal.TooLong _) = 4
 status_of (refusal.Table _) = 5
 status_of (refusal.Contract fault) = contract_status fault.kind
+status_of (refusal.Argument k) = argument_status k

@@ -17,11 +17,11 @@ use Rattle.halo_report.specs.FormText.{form_text}
 use Rattle.halo_report.specs.ValueText.{report_text}
 use Rattle.halo_spell.specs.ContractText.{contract_text}
 use Rattle.halo_value.specs.Forms.{AreForms}
-use Rattle.halo_top.specs.Command.{Asks, IsCommand}
+use Rattle.halo_top.specs.Arguments.{IsArgumentFault, TellsNamed}
+use Rattle.halo_top.specs.Command.{Asks, IsCommand, Request, of_columns, of_contract}
 use Rattle.halo_top.specs.Input.{AreTables, HasContract, HasContractFault, HasTableFault, HasTables}
 use Rattle.halo_top.specs.Input.{limit_of}
 use Rattle.halo_top.specs.Refusal.{line_of, status_of}
-use Rattle.halo_top.specs.declared.command.Command.{Command}
 use Rattle.halo_top.specs.declared.command.Task.{Task}
 use Rattle.halo_top.specs.declared.command.Task.TheVariants as task
 use Rattle.halo_top.specs.declared.refusal.InputFile.TheVariants as file
@@ -66,12 +66,27 @@ pub record AreWritten
 
 -- nothing is wrong with the files of these names, as far as they are told: they write a contract,
 -- and this is what the task writes of it
-pub record IsAnswer (t : Task) (shelf : Shelved) (tables_name contract_name text : List ℕ)
-    : Type 0 where
+pub record IsContractAnswer
+    (t : Task) (shelf : Shelved) (tables_name contract_name text : List ℕ) : Type 0 where
   pub tables : TableFile
   pub contract : PlainContract
   pub written : AreWritten shelf tables_name contract_name tables contract
   pub text_is : IsTextOf t tables contract text
+
+-- nothing is wrong with the file of this name, as far as it is told, and the arguments: this tells
+-- the columns of the named table of the file
+pub record IsColumnsAnswer (shelf : Shelved) (tables_name name fraction text : List ℕ)
+    : Type 0 where
+  pub tables : TableFile
+  pub tables_in : IfSome (shelf.file tables_name) (λ all. HasTables all tables)
+  pub told : TellsNamed tables name fraction text
+
+-- nothing is wrong with what is asked for, and this is the answer
+abbrev pub IsAnswer : Request → Shelved → List ℕ → Type 0
+IsAnswer (of_contract t tables contract) shelf text =
+    IsContractAnswer t shelf tables contract text
+IsAnswer (of_columns tables name fraction) shelf text =
+    IsColumnsAnswer shelf tables name fraction text
 
 -- the tables file of this name is in order, where it is told
 abbrev pub TablesInOrder : Shelved → List ℕ → Type 0
@@ -83,45 +98,55 @@ abbrev pub OfFiles : Shelved → List ℕ → List ℕ → (TableFile → List �
 OfFiles shelf tables contract P = IfSome (shelf.file tables) (λ all. AreTables all
     × IfSome (shelf.file contract) (P (tables_of (records_of all))))
 
+-- this is the first thing that is wrong with the tables file of this name, as far as it is told
+abbrev pub RefusesTables : Shelved → List ℕ → Refusal → Type 0
+RefusesTables shelf tables (refusal.Read file.Tables) = HasRisen shelf tables
+RefusesTables shelf tables (refusal.TooLong file.Tables) =
+    IfSome (shelf.file tables) (λ all. limit_of file.Tables < length all)
+RefusesTables shelf tables (refusal.Table fault) =
+    IfSome (shelf.file tables) (λ all. HasTableFault all fault)
+RefusesTables shelf tables _ = ⊥
+
 -- this is the first thing that is wrong with the files of these names, as far as they are told; a
 -- file is read only where those before it are in order
-abbrev pub Refuses : Shelved → List ℕ → List ℕ → Refusal → Type 0
-Refuses shelf tables contract (refusal.Read file.Tables) = HasRisen shelf tables
-Refuses shelf tables contract (refusal.TooLong file.Tables) =
-    IfSome (shelf.file tables) (λ all. limit_of file.Tables < length all)
-Refuses shelf tables contract (refusal.Table fault) =
-    IfSome (shelf.file tables) (λ all. HasTableFault all fault)
-Refuses shelf tables contract (refusal.Read file.Contract) =
+abbrev pub RefusesContract : Shelved → List ℕ → List ℕ → Refusal → Type 0
+RefusesContract shelf tables contract (refusal.Read file.Contract) =
     TablesInOrder shelf tables × HasRisen shelf contract
-Refuses shelf tables contract (refusal.TooLong file.Contract) =
+RefusesContract shelf tables contract (refusal.TooLong file.Contract) =
     TablesInOrder shelf tables
     × IfSome (shelf.file contract) (λ all. limit_of file.Contract < length all)
-Refuses shelf tables contract (refusal.Contract fault) =
+RefusesContract shelf tables contract (refusal.Contract fault) =
     OfFiles shelf tables contract (λ file bytes. HasContractFault file bytes fault)
-Refuses shelf tables contract refusal.Usage = ⊥
+RefusesContract shelf tables contract r = RefusesTables shelf tables r
 
--- what a task writes of the files of these names, or why there is none; want of memory is free
-abbrev pub AnswersFiles : Task → Shelved → List ℕ → List ℕ → Result (Vec ℕ) Stop → Type 0
-AnswersFiles t shelf tables contract (Ok text) = IsAnswer t shelf tables contract text.items
-AnswersFiles t shelf tables contract (Err stop.Memory) = ⊤
-AnswersFiles t shelf tables contract (Err (stop.Refused r)) = Refuses shelf tables contract r
+-- this is the first thing that is wrong with the tables file of this name, as far as it is told,
+-- and then with the arguments
+abbrev pub RefusesColumns : Shelved → List ℕ → List ℕ → List ℕ → Refusal → Type 0
+RefusesColumns shelf tables name fraction (refusal.Argument fault) = (file : TableFile)
+    × IfSome (shelf.file tables) (λ all. HasTables all file)
+    × IsArgumentFault file name fraction fault
+RefusesColumns shelf tables name fraction r = RefusesTables shelf tables r
 
--- what a command's files answer
-abbrev pub AnswersCommand : Shelved → Command → Result (Vec ℕ) Stop → Type 0
-AnswersCommand shelf command result =
-    AnswersFiles command.task shelf command.tables.now command.contract.now result
+-- this is the first thing that is wrong with what is asked for
+abbrev pub Refuses : Request → Shelved → Refusal → Type 0
+Refuses (of_contract t tables contract) shelf r = RefusesContract shelf tables contract r
+Refuses (of_columns tables name fraction) shelf r = RefusesColumns shelf tables name fraction r
 
--- a refusal of words and files: the words are no command, or something is wrong with the files that
--- they name
+-- what is answered to what is asked for, or why nothing is; want of memory is free
+abbrev pub Answers : Request → Shelved → Result (Vec ℕ) Stop → Type 0
+Answers request shelf (Ok text) = IsAnswer request shelf text.items
+Answers request shelf (Err stop.Memory) = ⊤
+Answers request shelf (Err (stop.Refused r)) = Refuses request shelf r
+
+-- a refusal of words and files: the words are no command, or something is wrong with what they ask
+-- for
 abbrev pub Refused : List (List ℕ) → Shelved → Refusal → Type 0
 Refused words shelf refusal.Usage = IsCommand words → ⊥
-Refused words shelf r = (t : Task) × (tables : List ℕ) × (contract : List ℕ)
-    × Asks words t tables contract × Refuses shelf tables contract r
+Refused words shelf r = (request : Request) × Asks words request × Refuses request shelf r
 
 -- an answer to words and files: the words are a command, and its files have this text as answer
 abbrev pub Answered : List (List ℕ) → Shelved → List ℕ → Type 0
-Answered words shelf text = (t : Task) × (tables : List ℕ) × (contract : List ℕ)
-    × Asks words t tables contract × IsAnswer t shelf tables contract text
+Answered words shelf text = (request : Request) × Asks words request × IsAnswer request shelf text
 
 -- the status and the text that these words and files call for
 abbrev pub CallsFor : List (List ℕ) → Shelved → ℕ → List ℕ → Type 0
@@ -137,11 +162,15 @@ pub record IsRead (shelf : Shelved) (name : List ℕ) : Type 0 where
 
 -- the files of these names are read as far as they are needed: the contract file is where the
 -- tables file is in order
-pub record AreRead (shelf : Shelved) (tables contract : List ℕ) : Type 0 where
+pub record AreBothRead (shelf : Shelved) (tables contract : List ℕ) : Type 0 where
   pub tables_read : IsRead shelf tables
   pub contract_read : AreTables tables_read.all → IsRead shelf contract
 
+-- the files of what is asked for are read as far as they are needed
+abbrev pub AreRead : Request → Shelved → Type 0
+AreRead (of_contract t tables contract) shelf = AreBothRead shelf tables contract
+AreRead (of_columns tables name fraction) shelf = IsRead shelf tables
+
 -- the files that the words name, if they are a command, are read as far as they are needed
 abbrev pub ReadsAll : List (List ℕ) → Shelved → Type 0
-ReadsAll words shelf = (t : Task) (tables contract : List ℕ)
-    → Asks words t tables contract → AreRead shelf tables contract
+ReadsAll words shelf = (request : Request) → Asks words request → AreRead request shelf

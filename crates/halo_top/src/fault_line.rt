@@ -1,8 +1,8 @@
 // The line that a refusal writes, made without memory.
 ghost use Rattle.std.specs.Prelude.{◌≡◌, ◌≤◌, length};
-ghost use Rattle.halo_top.specs.Refusal.{contract_kind_word, file_word, kind_word, line_of};
+ghost use Rattle.halo_top.specs.Refusal.{argument_word, contract_kind_word, file_word, kind_word, line_of};
 
-use crate::refusal::{InputFile, Refusal};
+use crate::refusal::{ArgumentKind, InputFile, Refusal};
 use arrayvec::ArrayString;
 use halo_parse::ContractKind;
 use halo_table::TableKind;
@@ -40,6 +40,10 @@ impl Refusal {
                 line.push_str(Buffer::new().format(fault.line));
                 line.push_str(" ");
                 line.push_str(word_of_contract_kind(fault.kind));
+            }
+            Refusal::Argument(kind) => {
+                line.push_str("argument ");
+                line.push_str(word_of_argument_kind(*kind));
             }
         }
         line.push_str("\n");
@@ -99,5 +103,18 @@ fn word_of_contract_kind(kind: ContractKind) -> &'static str
         ContractKind::NotAtStart => "NotAtStart",
         ContractKind::NotAlive => "NotAlive",
         ContractKind::Missing => "Missing",
+    }
+}
+
+// The word for what is wrong with an argument.
+fn word_of_argument_kind(kind: ArgumentKind) -> &'static str
+    ensures word { result.now ≡ argument_word kind }
+    ensures short { length result.now ≤ 9 }
+{
+    match kind {
+        ArgumentKind::Syntax => "Syntax",
+        ArgumentKind::Magnitude => "Magnitude",
+        ArgumentKind::Zero => "Zero",
+        ArgumentKind::NoTable => "NoTable",
     }
 }

@@ -2,6 +2,7 @@
 #![tactic(auto)]
 
 mod check;
+mod columns;
 mod command;
 mod compile;
 mod explain;

@@ -4,12 +4,14 @@ ghost use Rattle.halo_io.specs.Counts.{Rose};
 ghost use Rattle.halo_io.specs.Told.{AppendsTold, TookPrefix};
 ghost use Rattle.halo_contract.specs.PlainContract.{contract_of};
 ghost use Rattle.halo_contract.specs.ValidContract.{IsValidContract};
+ghost use Rattle.halo_top.specs.Command.{of_columns, of_contract, request_of};
 ghost use Rattle.halo_top.specs.Refusal.{line_of, status_of};
 ghost use Rattle.halo_top.specs.Run.{IsRun, status_of_none, sunk};
-ghost use Rattle.halo_top.specs.Verdict.{AnswersCommand, IsTextOf, shelved};
+ghost use Rattle.halo_top.specs.Verdict.{Answers, IsTextOf, shelved};
 
 use crate::check::check;
-use crate::command::{Command, Task};
+use crate::columns::columns;
+use crate::command::{ColumnsCommand, Command, ContractCommand, Task};
 use crate::compile::compile;
 use crate::explain::explain;
 use crate::input::{load_contract, load_tables};
@@ -67,15 +69,16 @@ pub fn run_words<S: Shelf, K: Sink>(
 /// | 3 | only where the shelf's count of faults of the file rose |
 /// | 4 | where the file is longer than its limit |
 /// | 5 | where the tables file has a fault, with the first faulty record |
-/// | 6, 7, 8 | where the contract file has a fault, with the first faulty line |
+/// | 6, 7, 8 | where the contract file has a fault, or the arguments of `columns` have one |
 /// | 9 | for want of memory; nothing was written, and the words were a command |
 ///
 /// `value T C` writes the report of the contract in the file C with the tables in the file T,
 /// `check T C` its canonical text, `compile T C` the compiled forms of its pays and of its premium,
-/// and `explain T C` the parts of each pay.
+/// and `explain T C` the parts of each pay. `columns T NAME P/Q` writes the commutation columns of
+/// the table NAME in the file T at the yearly interest P/Q.
 ///
 /// The two decimals of each line of a report enclose the exact value of the contract that the files
-/// write, as far as they are told.
+/// write, as far as they are told, and those of columns the exact entry.
 ///
 /// A text is built whole before its first write, and writing takes no memory.
 pub fn run<S: Shelf, K: Sink>(alloc: Global, words: &[String], shelf: &mut S, out: &mut K) -> u8
@@ -100,9 +103,25 @@ pub fn run<S: Shelf, K: Sink>(alloc: Global, words: &[String], shelf: &mut S, ou
 // The text that a command writes.
 fn answer<S: Shelf>(alloc: Global, command: &Command<'_>, shelf: &mut S) -> Result<Vec<u8>, Stop>
     ensures same { (n : List ℕ) → S.file shelf.new n ≡ S.file shelf.old n }
-    ensures answer { AnswersCommand
-        (shelved (S.file shelf.old) (S.faults shelf.old) (S.faults shelf.new))
-        command.now result }
+    ensures answer { Answers (request_of command.now)
+        (shelved (S.file shelf.old) (S.faults shelf.old) (S.faults shelf.new)) result }
+{
+    match command {
+        Command::Contract(command) => answer_of_contract(alloc, command, shelf),
+        Command::Columns(command) => answer_of_columns(alloc, command, shelf),
+    }
+}
+
+// The text that a command writes of a contract.
+fn answer_of_contract<S: Shelf>(
+    alloc: Global,
+    command: &ContractCommand<'_>,
+    shelf: &mut S,
+) -> Result<Vec<u8>, Stop>
+    ensures same { (n : List ℕ) → S.file shelf.new n ≡ S.file shelf.old n }
+    ensures answer { Answers
+        (of_contract command.now.task command.now.tables.now command.now.contract.now)
+        (shelved (S.file shelf.old) (S.faults shelf.old) (S.faults shelf.new)) result }
 {
     let tables = load_tables(alloc, shelf, command.tables)?;
     let contract = load_contract(alloc, shelf, command.contract, &tables)?;
@@ -110,6 +129,21 @@ fn answer<S: Shelf>(alloc: Global, command: &Command<'_>, shelf: &mut S) -> Resu
         Ok(text) => Ok(text),
         Err(_) => Err(Stop::Memory),
     }
+}
+
+// The text of the columns of a table.
+fn answer_of_columns<S: Shelf>(
+    alloc: Global,
+    command: &ColumnsCommand<'_>,
+    shelf: &mut S,
+) -> Result<Vec<u8>, Stop>
+    ensures same { (n : List ℕ) → S.file shelf.new n ≡ S.file shelf.old n }
+    ensures answer { Answers
+        (of_columns command.now.tables.now command.now.name.now command.now.fraction.now)
+        (shelved (S.file shelf.old) (S.faults shelf.old) (S.faults shelf.new)) result }
+{
+    let tables = load_tables(alloc, shelf, command.tables)?;
+    columns(alloc, &tables, command.name, command.fraction)
 }
 
 // The text that a task writes of a contract.

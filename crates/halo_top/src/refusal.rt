@@ -26,6 +26,20 @@ impl InputFile {
     }
 }
 
+/// What is wrong with the name or the fraction of `columns`, the kinds in the order in which they
+/// are looked at.
+#[derive(Clone, Copy, Debug, PartialEq, Eq)]
+pub enum ArgumentKind {
+    /// The last word is no fraction.
+    Syntax,
+    /// A number of the fraction is above 10^9.
+    Magnitude,
+    /// The second number of the fraction is 0.
+    Zero,
+    /// No table of the file has the name.
+    NoTable,
+}
+
 /// What is wrong with the words or the files.
 #[derive(Clone, Copy, Debug, PartialEq, Eq)]
 pub enum Refusal {
@@ -39,6 +53,8 @@ pub enum Refusal {
     Table(TableFault),
     /// This line of the contract file is the first faulty one.
     Contract(ContractFault),
+    /// This is wrong with the name or the fraction of `columns`.
+    Argument(ArgumentKind),
 }
 
 /// Why there is no answer.
@@ -65,6 +81,9 @@ impl Refusal {
                 ContractKind::Magnitude => 8,
                 _ => 7,
             },
+            Refusal::Argument(ArgumentKind::Syntax) => 6,
+            Refusal::Argument(ArgumentKind::Magnitude) => 8,
+            Refusal::Argument(ArgumentKind::Zero | ArgumentKind::NoTable) => 7,
         }
     }
 }

@@ -1,5 +1,5 @@
 use Rattle.halo_parse.proofs.ValidContracts.{contracts_are_valid}
-use Rattle.halo_top.proofs.program.answer.Goals as goal
+use Rattle.halo_top.proofs.program.answer_of_contract.Goals as goal
 
 pub text_of-requires : goal.text_of-requires
 text_of-requires g c =
