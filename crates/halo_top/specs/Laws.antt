@@ -12,8 +12,8 @@ use Rattle.halo_top.specs.Verdict.{AreWritten, CallsFor, IsTextOf, ReadsAll, She
 use Rattle.halo_top.specs.declared.command.Task.{Task}
 
 -- two texts are what one task writes of the one contract in the files: for `check` they are equal,
--- for `value` both are reports that enclose what the contract is worth, and for `compile` both are
--- texts of the forms of its pays
+-- for `value` both are reports that enclose what the contract is worth, for `compile` both are texts
+-- of the forms of its pays, and for `explain` both tell the parts of each pay
 pub record AreOfOneContract
     (t : Task) (shelf : Shelved) (tables_name contract_name text other : List ℕ) : Type 0 where
   pub tables : TableFile

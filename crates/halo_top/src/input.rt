@@ -1,7 +1,7 @@
 // The files that a command reads.
 ghost use Rattle.std.specs.Prelude.{◌≡◌, ◌≤◌, ℕ, List};
 ghost use Rattle.halo_io.specs.Counts.{Rose};
-ghost use Rattle.halo_top.specs.Input.{LoadsContract, LoadsFile, LoadsTables, limit_of};
+ghost use Rattle.halo_top.specs.Input.{LoadsContract, LoadsFile, LoadsTables};
 
 use crate::refusal::{InputFile, Refusal, Stop};
 use halo_contract::Contract;
