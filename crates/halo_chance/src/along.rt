@@ -1,6 +1,6 @@
 // The chance of a status along its tree: where no life stands in it twice, the chances of its
 // members multiply.
-ghost use Rattle.std.specs.Prelude.{◌≡◌, ℕ, ◌+◌, ◌-◌, ◌*◌, ◌^◌, ◌<◌, ◌≤◌, cond, length, pos};
+ghost use Rattle.std.specs.Prelude.{ℕ, ◌+◌, ◌-◌, ◌*◌, ◌^◌, ◌<◌, ◌≤◌, cond, length, pos};
 ghost use Rattle.halo_sums.specs.Sums.{numbers_from, product_over};
 ghost use Rattle.halo_num.specs.Ends.{fine, IsWithin};
 ghost use Rattle.halo_num.specs.Enclosure.{Encloses};

@@ -4,13 +4,11 @@
 ghost use Rattle.std.specs.Prelude.{◌≡◌, ℕ, ◌+◌, ◌-◌, ◌*◌, ◌^◌, ◌<◌, ◌≤◌, length, pos};
 ghost use Rattle.halo_num.specs.Ends.{fine, IsWithin};
 ghost use Rattle.halo_num.specs.Chance.{EnclosesChance};
-ghost use Rattle.halo_status.specs.Naming.{names_life, NamesLivesBelow};
+ghost use Rattle.halo_status.specs.Naming.{NamesLivesBelow};
 ghost use Rattle.halo_status.specs.Nodes.{nodes};
 ghost use Rattle.halo_status.specs.StatusTree.{tree_of};
 ghost use Rattle.halo_status.specs.View.{is_on};
-ghost use Rattle.halo_model.specs.ByTree.{weight_of, whole_of};
-ghost use Rattle.halo_model.specs.PartsByTree.{put_for};
-ghost use Rattle.halo_chance.specs.Enclosed.{AreEnclosed, EachIsChance, life_widths};
+ghost use Rattle.halo_chance.specs.Enclosed.{EachIsChance};
 ghost use Rattle.halo_chance.specs.Loss.{EnclosesLoss};
 
 use crate::along::chance;

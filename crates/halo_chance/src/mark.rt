@@ -1,7 +1,7 @@
 // The chance of the status on which a contingent insurance waits: its marked member exists, and
 // exactly so many others that it fails at its rank if it fails next.
 
-ghost use Rattle.std.specs.Prelude.{◌≡◌, ℕ, ◌+◌, ◌-◌, ◌*◌, ◌^◌, ◌<◌, ◌≤◌, Some, length, pos, true};
+ghost use Rattle.std.specs.Prelude.{◌+◌, ◌-◌, ◌*◌, ◌^◌, ◌<◌, ◌≤◌, Some, length, pos, true};
 ghost use Rattle.halo_num.specs.Ends.{fine, IsWithin};
 ghost use Rattle.halo_status.specs.Naming.{AnyNamesLivesBelow};
 ghost use Rattle.halo_status.specs.Nodes.{nodes, nodes_in};

@@ -3,7 +3,7 @@
 // It grows by one member at a time: with the member's chance the others have to be one fewer, and
 // else they have to be enough themselves.
 
-ghost use Rattle.std.specs.Prelude.{◌≡◌, ℕ, ◌+◌, ◌-◌, ◌*◌, ◌<◌, ◌≤◌, Bool, cond, pos};
+ghost use Rattle.std.specs.Prelude.{◌≡◌, ℕ, ◌+◌, ◌-◌, ◌*◌, ◌<◌, cond, pos};
 ghost use Rattle.halo_num.specs.Ends.{fine, IsWithin};
 ghost use Rattle.halo_num.specs.Chance.{EnclosesChance};
 ghost use Rattle.halo_chance.specs.Enclosed.{entry_at, EachIsChance};

@@ -132,7 +132,8 @@ module _ (c : ColumnBasis) where
   tell-sums : (most : ℕ) (f w : ℕ → ℕ) → end_age c ≤ 151 → Tellable most f w
       → Tellable (151 * most) (sum_from c f) (sum_from c w)
   tell-sums most f w ages each x from below =
-      let s = tell-sum (column_denominator c) most f w (end_age c - x) x (λ y a b. each y (omega arith) (omega arith)) in
+      let s = tell-sum (column_denominator c) most f w (end_age c - x) x
+      (λ y a b. each y (omega arith) (omega arith)) in
       let few : (end_age c - x) * most ≤ 151 * most = mul-le-mul_right most (omega arith) in
       let all = mul-le-mul_right (column_denominator c) few in
       record { room = s.room; small = omega (arith, s.small, all) }
@@ -147,7 +148,8 @@ module _ (c : ColumnBasis) where
       let last = last_age_of c.file c.table in
       let made = listed zero_entry (λ k i. IsEntry c (f (last - k)) (w (last - k)) GREATEST_ENTRY i)
       (end_age c - first_age_of c.file c.table)
-      (λ k below. an-entry c some most (f (last - k)) (w (last - k)) low (each (last - k) (omega arith) (omega arith))) in (
+      (λ k below. an-entry c some most (f (last - k)) (w (last - k)) low
+      (each (last - k) (omega arith) (omega arith))) in (
         made.0,
         λ set ages x from to.
             let age : last - (last - x) ≡ x = omega arith in
@@ -195,7 +197,8 @@ module _ (c : ColumnBasis) (sound : IsSound c.file) (table_in : c.table < length
       let m = a-column c some _ _ _ (omega arith) (sums _ _ tell-c) in
       let r = a-column c some _ _ _ (omega arith) (sums_of_sums _ _ tell-c) in
       let causes = listed no_columns
-      (λ j t. Tells c (column_c_by c j) (width_c_by c j) t.discounted × Tells c (column_m_by c j) (width_m_by c j) t.sums)
+      (λ j t. Tells c (column_c_by c j) (width_c_by c j) t.discounted
+      × Tells c (column_m_by c j) (width_m_by c j) t.sums)
       (length c.file.causes) (λ j known.
       let of_c = a-column c some _ _ _ (omega arith) (tell-c-by j) in
       let of_m = a-column c some _ _ _ (omega arith) (sums _ _ (tell-c-by j)) in

@@ -1,5 +1,5 @@
 // A column, from the last age of a table down to its first.
-ghost use Rattle.std.specs.Prelude.{◌≡◌, ◌≤◌, ◌<◌, ◌+◌, ◌*◌, ℕ, IfOk, length};
+ghost use Rattle.std.specs.Prelude.{◌≤◌, ◌<◌, ◌+◌, ◌*◌, ℕ, IfOk, length};
 ghost use Rattle.halo_interest.specs.Powers.{ArePowers};
 ghost use Rattle.halo_columns.specs.Entries.{AreEntries, AreSized, AreSums, IsKnown, columns_of, counted, counted_width};
 

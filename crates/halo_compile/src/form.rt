@@ -1,5 +1,5 @@
 // Compiled forms, and what is read off them.
-ghost use Rattle.std.specs.Prelude.{◌≡◌, ℕ, ◌<◌, ◌≤◌, length};
+ghost use Rattle.std.specs.Prelude.{◌≡◌, ℕ, ◌<◌, length};
 ghost use Rattle.halo_status.specs.Pay.{PlainPay};
 ghost use Rattle.halo_compile.specs.Form.{HasTime, IsForm, IsPolyOf, segment_at};
 ghost use Rattle.halo_compile.specs.Weight.{greatest_weight};

@@ -1,5 +1,5 @@
 // The chances of one life from the time of its group on.
-ghost use Rattle.std.specs.Prelude.{◌≡◌, ℕ, ◌≤◌, ◌<◌, false, pos, true};
+ghost use Rattle.std.specs.Prelude.{◌≡◌, ◌≤◌, ◌<◌, false, pos, true};
 ghost use Rattle.halo_sums.specs.Masks.{has_bit};
 ghost use Rattle.halo_num.specs.Chance.{EnclosesChance};
 ghost use Rattle.halo_num.specs.Ends.{fine};

@@ -1,5 +1,5 @@
 // The chances of a year for all sets of lives at once.
-ghost use Rattle.std.specs.Prelude.{◌≡◌, ℕ, suc, ◌+◌, ◌^◌, ◌<◌, ◌≤◌, cond};
+ghost use Rattle.std.specs.Prelude.{◌≡◌, suc, ◌+◌, ◌^◌, ◌<◌, ◌≤◌, cond};
 ghost use Rattle.halo_sums.specs.Masks.{bits, has_bit};
 ghost use Rattle.halo_sums.specs.Sets.{size_of};
 ghost use Rattle.halo_model.specs.Chance.{asked};

@@ -41,9 +41,12 @@ four true true false d e = absurd (cc)
 four true false c d e = absurd (cc)
 four false b c d e = absurd (cc)
 
-pub allowed : (pay : PlainPay) (rank : ℕ → ℕ) (T : ℕ) (o : Outcome) (event : Event) → falls_on pay rank T o event ≡ true → Allowed pay T event
+pub allowed : (pay : PlainPay) (rank : ℕ → ℕ) (T : ℕ) (o : Outcome) (event : Event)
+    → falls_on pay rank T o event ≡ true → Allowed pay T event
 allowed pay rank T o event e =
-    let all = four (nat_le pay.defer (year_of event)) (nat_le T (year_of event)) (by_cause pay.causes event) (fails_by_mark pay.mark pay.body (lives_before rank o event) (terms_before event) (lives_after rank o event) (terms_after event)) e in
+    let all = four (nat_le pay.defer (year_of event)) (nat_le T (year_of event)) (by_cause pay.causes event)
+    (fails_by_mark pay.mark pay.body (lives_before rank o event) (terms_before event)
+    (lives_after rank o event) (terms_after event)) e in
     record { deferred = tested _ _ all.0; started = tested _ _ all.1; cause = all.2 }
 
 pub no-chance-on-leaving-outside : NoChanceOnLeavingOutside

@@ -28,7 +28,8 @@ multiple-sum xs amount f g each =
 -- a multiple of a number, and of a number in a product
 pos-multiple : (amount share : ℕ) (z : ℤ) → pos (amount * share) *ℤ z ≡ pos share *ℤ z *ℤ pos amount
 pos-multiple amount share z =
-    ap (λ p. p *ℤ z) (pos_mul amount share) ∙ mul_assoc (pos amount) (pos share) z ∙ mul_comm (pos amount) (pos share *ℤ z)
+    ap (λ p. p *ℤ z) (pos_mul amount share) ∙ mul_assoc (pos amount) (pos share) z
+    ∙ mul_comm (pos amount) (pos share *ℤ z)
 
 module _ (b : Basis) (pay : PlainPay) where
   paid-times : (may : Bool) (share rest : ℕ)

@@ -1,4 +1,5 @@
--- The parts of a pay add up to its value: sets without a coefficient, and lives that its body does not name, add nothing.
+-- The parts of a pay add up to its value: sets without a coefficient, and lives that its body does
+-- not name, add nothing.
 use Rattle.std.proofs.Common.{◌≡◌, ◌≢◌, ℕ, zero, suc, ◌+◌, ◌≤◌, arith, refl, ap, sym, ◌∙◌, List, [], ◌∷◌, length, get_or, map, Bool, true, false, ◌&&◌, nat_eq, Option, None, Some, ℤ, pos, negsuc, ◌+ℤ◌, ◌*ℤ◌}
 use Rattle.std.specs.Prelude.{IfSome}
 use Rattle.std.proofs.Math.Bool.{and-false}
@@ -57,7 +58,8 @@ all-sizes n f =
     ap (λ (count : ℕ). by_size count n f) (sym last)
     ∙ ap (λ ks. int_sum_over ks (λ k. int_sum_over (sets_of_size k n) f)) split
     ∙ int_sum_over-append (numbers_from 0 (suc n)) (numbers_from (0 + suc n) 1) (λ k. int_sum_over (sets_of_size k n) f)
-    ∙ ap (λ (k : ℕ). by_size (suc n) n f +ℤ int_sum_over (numbers_from k 1) (λ j. int_sum_over (sets_of_size j n) f)) here
+    ∙ ap (λ (k : ℕ). by_size (suc n) n f
+    +ℤ int_sum_over (numbers_from k 1) (λ j. int_sum_over (sets_of_size j n) f)) here
     ∙ ap (λ (sets : List (List Bool)). by_size (suc n) n f +ℤ (int_sum_over sets f +ℤ pos 0)) none
     ∙ omega (arith, ints)
 
@@ -106,7 +108,8 @@ module _ (b : Basis) (pay : PlainPay) where
   no-coefficient run s none = by-size (form pay run.first s) refl none
     where
       by-size : (z : ℤ) → form pay run.first s ≡ z → is_some z ≡ false
-          → pos (length (taken b)) *ℤ (form pay run.first s *ℤ pos (sum_over (times_of run) (paid_to_set b pay s))) ≡ pos 0
+          → pos (length (taken b))
+          *ℤ (form pay run.first s *ℤ pos (sum_over (times_of run) (paid_to_set b pay s))) ≡ pos 0
       by-size (pos zero) is none = rw is (omega (arith, ints))
       by-size (pos (suc n)) is none = absurd (cc)
       by-size (negsuc n) is none = absurd (cc)
@@ -202,7 +205,8 @@ parts-add-up b lives end pay valid years parts are = by-kind pay.kind refl are
     annuity annual (runs, segments, is) =
         ap (λ ps. int_sum_over ps (part_numerator b pay)) is ∙ by-runs b pay runs
         ∙ run-parts-add-up b lives pay annual (no-mark annual pay.mark valid.mark) valid.lists
-        (ranks-ask pay.body valid.ranks) (omega (arith, in-time pay.kind (horizon b.lives pay.body), years)) runs segments
+        (ranks-ask pay.body valid.ranks) (omega (arith, in-time pay.kind (horizon b.lives pay.body), years))
+        runs segments
 
     by-kind : (kind : Kind) → pay.kind ≡ kind → ArePartsByKind kind b pay parts
         → int_sum_over parts (part_numerator b pay) ≡ pos (numerator b pay 0 all_lives)

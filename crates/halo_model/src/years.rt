@@ -1,7 +1,7 @@
 // The horizon of a status.
-ghost use Rattle.std.specs.Prelude.{◌≡◌, ◌<◌, ◌≤◌, length};
+ghost use Rattle.std.specs.Prelude.{◌≡◌, ◌≤◌};
 ghost use Rattle.halo_status.specs.StatusTree.{tree_of, trees_in};
-ghost use Rattle.halo_table.specs.DecrementTable.{last_age_of, HasRow};
+ghost use Rattle.halo_table.specs.DecrementTable.{HasRow};
 ghost use Rattle.halo_model.specs.FromTables.{life_of, lives_of};
 ghost use Rattle.halo_model.specs.Horizon.{HasRows, HasShortTerms, HaveRows, HaveShortTerms, horizon, longest, longest_of, years_left_of};
 

@@ -1,5 +1,5 @@
 // Lists of numbers, one for each set of lives, entry by entry.
-ghost use Rattle.std.specs.Prelude.{◌≡◌, ℕ, ◌+◌, ◌*◌, ◌^◌, ◌<◌, ◌≤◌, Bool, false, cond, get_or, length, nat_eq, nat_le, pos, unsigned_abs, ◌+ℤ◌, ◌-ℤ◌, ◌*ℤ◌, FitsSigned};
+ghost use Rattle.std.specs.Prelude.{◌≡◌, ℕ, ◌+◌, ◌*◌, ◌^◌, ◌<◌, ◌≤◌, false, cond, get_or, length, nat_eq, nat_le, pos, unsigned_abs, ◌+ℤ◌, ◌-ℤ◌, ◌*ℤ◌, FitsSigned};
 ghost use Rattle.std.specs.Int.{w64};
 ghost use Rattle.halo_sums.specs.Sums.{indicator, int_sum_over, numbers_from, sum_over};
 ghost use Rattle.halo_sums.specs.Masks.{has_bit};

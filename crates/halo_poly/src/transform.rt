@@ -1,7 +1,7 @@
 // The zeta and the Moebius transform over sets of lives: from coefficients to the values on all
 // sets, and back. Each goes over all sets once for each life; where only some lives count, over the
 // sets within these.
-ghost use Rattle.std.specs.Prelude.{◌≡◌, ℕ, ◌+◌, ◌^◌, ◌<◌, ◌≤◌, Bool, true, false, cond, List, get_or, length, pos, ◌+ℤ◌, ◌-ℤ◌, ◌*ℤ◌, FitsSigned};
+ghost use Rattle.std.specs.Prelude.{◌≡◌, ℕ, ◌+◌, ◌^◌, ◌<◌, ◌≤◌, true, cond, get_or, length, pos, ◌+ℤ◌, ◌-ℤ◌, ◌*ℤ◌, FitsSigned};
 ghost use Rattle.std.specs.Int.{w64};
 ghost use Rattle.halo_sums.specs.Masks.{has_bit};
 ghost use Rattle.halo_sums.specs.Sums.{indicator};

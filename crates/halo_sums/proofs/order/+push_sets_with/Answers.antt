@@ -28,7 +28,8 @@ pub returns-then-more-eq0-clause-below : goal.returns-then-more-eq0-clause-below
 returns-then-more-eq0-clause-below t c = λ all.
     let within : 2 ^ c.args.number ≤ 2 ^ c.args.count = pow-le-pow_right (omega arith) c.requires.number in
     rw c.in_ok-push.ensures.items
-    (All-push (λ set. set < 2 ^ c.args.count) c.args.into.now.items c.args.set all (omega (arith, c.requires.set, within)))
+    (All-push (λ set. set < 2 ^ c.args.count) c.args.into.now.items c.args.set all
+    (omega (arith, c.requires.set, within)))
 
 pub returns-clause-below : goal.returns-clause-below
 returns-clause-below t c =
