@@ -11,6 +11,15 @@ use crate::units::FINE_UNITS;
 /// The base of the long division: a factor of 10^18 brings down two of its digits.
 const BILLION: u128 = 1_000_000_000;
 
+/// 2^57: a number up to 10^36 without its last 57 bits fits 64.
+const LOW_PART: u128 = 1 << 57;
+
+/// The reciprocal of 10^18, as a multiple of 2^-123: 2^123 / 10^18, rounded down.
+const RECIPROCAL: u64 = 10_633_823_966_279_326_983;
+
+/// 2^66: what a product by the reciprocal is divided by, once 57 bits are left out.
+const RECIPROCAL_SCALE: u128 = 1 << 66;
+
 /// A quotient's whole part, and what is left over.
 #[derive(Clone, Copy)]
 pub struct Division {
@@ -20,8 +29,8 @@ pub struct Division {
 
 /// The product of `a` and `b`, divided by 10^18.
 ///
-/// Factors up to 1, as probabilities and discounts are, have a product that fits `u128`: it is divided
-/// at once, since every valuation makes most of its products of such factors.
+/// Factors up to 1, as probabilities and discounts are, have a product that is divided at once, since
+/// every valuation makes most of its products of such factors.
 pub fn divided_product(a: u128, b: u128) -> Division
     requires a_in { a ≤ 10 ^ 33 }
     requires b_in { b ≤ 10 ^ 21 }
@@ -30,29 +39,54 @@ pub fn divided_product(a: u128, b: u128) -> Division
     ensures bound { result.whole ≤ 2 * 10 ^ 36 }
 {
     if a <= FINE_UNITS && b <= FINE_UNITS {
-        divided_by_fine(a * b)
+        divided_by_fine(product(a as u64, b as u64))
     } else {
         divided_in_parts(a, b)
     }
 }
 
+/// The product of two numbers of 64 bits.
+fn product(a: u64, b: u64) -> u128
+    ensures { result ≡ a * b }
+{
+    u128::from(a) * u128::from(b)
+}
+
 /// A number, divided by 10^18.
 fn divided_by_fine(units: u128) -> Division
+    requires small { units ≤ 10 ^ 36 }
     ensures whole { result.whole * fine + result.rest ≡ units }
     ensures rest { result.rest < fine }
-    ensures bound { result.whole ≤ units }
 {
-    let whole = units / FINE_UNITS;
-    Division {
-        whole,
-        rest: units - whole * FINE_UNITS,
+    let near = near_whole(units);
+    let rest = units - near * FINE_UNITS;
+    if rest < FINE_UNITS {
+        Division { whole: near, rest }
+    } else {
+        Division {
+            whole: near + 1,
+            rest: rest - FINE_UNITS,
+        }
     }
+}
+
+/// The whole part of a number divided by 10^18, or 1 less.
+///
+/// It is found without a division: the number without its last 57 bits, which fits 64, times the
+/// reciprocal of 10^18.
+fn near_whole(units: u128) -> u128
+    requires small { units ≤ 10 ^ 36 }
+    ensures from { result * fine ≤ units }
+    ensures near { units < (result + 2) * fine }
+{
+    let high = units / LOW_PART;
+    product(high as u64, RECIPROCAL) / RECIPROCAL_SCALE
 }
 
 /// The product of `a` and `b`, divided by 10^18.
 ///
-/// Each factor is split by 10^18 into a high and a low part: what a high part contributes divides
-/// exactly, and only the product of the two low parts leaves a rest.
+/// Each factor is split by 10^18 into a whole part and a rest: what a whole part contributes divides
+/// exactly, and only the product of the two rests leaves a rest.
 fn divided_in_parts(a: u128, b: u128) -> Division
     requires a_in { a ≤ 10 ^ 33 }
     requires b_in { b ≤ 10 ^ 21 }
@@ -60,15 +94,12 @@ fn divided_in_parts(a: u128, b: u128) -> Division
     ensures rest { result.rest < fine }
     ensures bound { result.whole ≤ 2 * 10 ^ 36 }
 {
-    let a_high = a / FINE_UNITS;
-    let a_low = a - a_high * FINE_UNITS;
-    let b_high = b / FINE_UNITS;
-    let b_low = b - b_high * FINE_UNITS;
-    let low = a_low * b_low;
-    let whole = low / FINE_UNITS;
+    let left = divided_by_fine(a);
+    let right = divided_by_fine(b);
+    let low = divided_by_fine(product(left.rest as u64, right.rest as u64));
     Division {
-        whole: a_high * b + a_low * b_high + whole,
-        rest: low - whole * FINE_UNITS,
+        whole: left.whole * b + left.rest * right.whole + low.whole,
+        rest: low.rest,
     }
 }
 
