@@ -1,0 +1,3 @@
+-- The definitions that the laws of a sample's files cite.
+pub mod DrawnTables
+pub mod Laws
