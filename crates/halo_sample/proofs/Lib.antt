@@ -1,6 +1,6 @@
-mod Draws
-mod OneByOne
-mod SampleTables
-mod SampleRecords
-mod SampleWords
-mod RecordsByPlace
+pub mod Draws
+pub mod OneByOne
+pub mod SampleTables
+pub mod SampleRecords
+pub mod SampleWords
+pub mod RecordsByPlace

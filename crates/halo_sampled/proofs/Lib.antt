@@ -1,0 +1,6 @@
+-- What the laws of a sample's files are proved with.
+pub mod ReadRecords
+pub mod FineRows
+pub mod PlainRecords
+pub mod NumbersOfRows
+pub mod GroupedTables

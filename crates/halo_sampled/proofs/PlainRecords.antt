@@ -1,0 +1,74 @@
+-- The records of a sample's tables file are read from it.
+use Rattle.std.proofs.Common.{◌≡◌, ◌==◌, ℕ, zero, suc, ◌+◌, ◌^◌, ◌<◌, ◌≤◌, List, [], ◌∷◌, ◌++◌, ap, arith, codes, false, map, refl, ◌∙◌}
+use Rattle.std.specs.Prelude.{All}
+use Rattle.std.specs.Fmt.{decimal}
+use Rattle.std.proofs.lemmas.Bool.{ne_eqb}
+use Rattle.std.proofs.lemmas.List.Elements.{All-append, All-cons, All-from_recursion, All-map, All-nil, All-weaker}
+use Rattle.std.proofs.lemmas.List.Folds.{list_any_none}
+use Rattle.csv.specs.Reading.{strip_bom}
+use Rattle.csv.specs.Writing.{default_writer, needs_byte}
+use Rattle.halo_records.specs.Records.{records_of}
+use Rattle.halo_text.specs.Number.{IsDigit}
+use Rattle.halo_sample.specs.declared.tables.Row.{Row}
+use Rattle.halo_sample.specs.declared.tables.TheConstants.{LAST_AGE, TABLES}
+use Rattle.halo_sample.specs.Generator.{state_behind_pairs}
+use Rattle.halo_sample.specs.Records.{header_fields, records_from, row_fields, sample_records}
+use Rattle.halo_sample.specs.Sample.{sample_tables}
+use Rattle.halo_sample.specs.Tables.{table_rows}
+use Rattle.halo_sample.proofs.SampleRecords.{tables-are-records}
+use Rattle.halo_sampled.proofs.FineRows.{IsFineRow, rows-fine}
+use Rattle.halo_sampled.proofs.NumbersOfRows.{IsNumber-decimal}
+use Rattle.halo_sampled.proofs.ReadRecords.{IsPlain, IsReadBack, lines-read_back, plain-read_back}
+
+-- a digit calls for no quotes
+digit-plain : (byte : ℕ) → IsDigit byte → needs_byte default_writer byte ≡ false
+digit-plain byte digit =
+    let other : (mark : ℕ) → mark < 48 → (byte == mark) ≡ false
+    = λ mark below. ne_eqb byte mark (λ same. absurd (omega (arith, digit.0, same, below))) in
+    rw (other 44 (omega arith), other 34 (omega arith), other 13 (omega arith), other 10 (omega arith)) refl
+
+-- nor does a number
+number-plain : (n : ℕ) → n < 2 ^ 64 → IsPlain (decimal n)
+number-plain n small =
+    list_any_none (needs_byte default_writer) (decimal n)
+    (All-weaker IsDigit (λ byte. needs_byte default_writer byte ≡ false) digit-plain (decimal n)
+    (IsNumber-decimal n small).1)
+
+-- the record of a row is read back
+row-read_back : (table : ℕ) → table < TABLES → (row : Row) → IsFineRow row → IsReadBack (row_fields table row)
+row-read_back table known row fine =
+    plain-read_back (codes "t" ++ decimal table) (decimal row.age)
+    (decimal row.alive ∷ decimal row.deaths ∷ decimal row.lapses ∷ [])
+    (All-from_recursion IsPlain (row_fields table row) (
+      number-plain table (omega (arith, known)),
+      (number-plain row.age (omega (arith, fine.age)),
+      (number-plain row.alive (omega (arith, fine.most)),
+      (number-plain row.deaths (omega (arith, fine.fits, fine.most)),
+      (number-plain row.lapses (omega (arith, fine.fits, fine.most)), tt))))
+    ))
+
+-- and so are those of some tables
+rows-read_back : (left table s : ℕ) → left + table ≤ TABLES → All IsReadBack (records_from left table s)
+unfolding records_from
+rows-read_back zero table s within = All-nil IsReadBack
+rows-read_back (suc left) table s within =
+    let behind = state_behind_pairs LAST_AGE s in
+    All-append IsReadBack (map (row_fields table) (table_rows s)) (records_from left (suc table) behind)
+    (All-map IsReadBack (row_fields table) (table_rows s)
+    (All-weaker IsFineRow (λ row. IsReadBack (row_fields table row)) (row-read_back table (omega (arith, within)))
+    (table_rows s) (rows-fine s)))
+    (rows-read_back left (suc table) behind (omega (arith, within)))
+
+header-read_back : IsReadBack header_fields
+header-read_back =
+    plain-read_back (codes "table") (codes "age") (codes "l" ∷ codes "death" ∷ codes "lapse" ∷ [])
+    (All-from_recursion IsPlain header_fields (refl, (refl, (refl, (refl, (refl, tt))))))
+
+-- the records of the tables file
+pub records-read : (number : ℕ) → records_of (sample_tables number) ≡ sample_records number
+unfolding strip_bom
+records-read number =
+    ap records_of (tables-are-records number)
+    ∙ lines-read_back (sample_records number)
+    (All-cons IsReadBack header_fields (records_from TABLES 0 number) header-read_back
+    (rows-read_back TABLES 0 number (omega arith)))
