@@ -4,3 +4,5 @@ pub mod FineRows
 pub mod PlainRecords
 pub mod NumbersOfRows
 pub mod GroupedTables
+pub mod PlacedRecords
+pub mod NamedRecords
