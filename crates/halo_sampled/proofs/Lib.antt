@@ -6,3 +6,5 @@ pub mod NumbersOfRows
 pub mod GroupedTables
 pub mod PlacedRecords
 pub mod NamedRecords
+pub mod FieldsOfRecords
+pub mod FineRecords
