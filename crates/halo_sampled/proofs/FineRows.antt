@@ -1,11 +1,13 @@
--- What holds of the rows of a sample's tables, one by one.
-use Rattle.std.proofs.Common.{ℕ, ◌≡◌, ◌+◌, ◌*◌, ◌<◌, ◌≤◌, arith, inl, inr}
+-- What holds of each row of a sample's tables.
+use Rattle.std.proofs.Common.{ℕ, zero, suc, ◌≡◌, ◌+◌, ◌*◌, ◌<◌, ◌≤◌, List, arith, inl, inr, map}
 use Rattle.std.specs.Prelude.{All}
-use Rattle.std.proofs.lemmas.List.Elements.{All-from_get_or}
+use Rattle.std.proofs.lemmas.List.Elements.{All-append, All-cons, All-from_get_or, All-map, All-nil, All-weaker}
 use Rattle.std.proofs.lemmas.Bool.{cases_lt}
 use Rattle.halo_sample.specs.declared.tables.Row.{Row}
-use Rattle.halo_sample.specs.declared.tables.TheConstants.{LAST_AGE, RADIX}
+use Rattle.halo_sample.specs.declared.tables.TheConstants.{LAST_AGE, RADIX, TABLES}
+use Rattle.halo_sample.specs.Generator.{state_behind_pairs}
 use Rattle.halo_sample.specs.Laws.{FEWEST, leavers, row_at}
+use Rattle.halo_sample.specs.Records.{header_fields, records_from, row_fields, sample_records}
 use Rattle.halo_sample.specs.Tables.{last_row, table_rows}
 use Rattle.halo_sample.proofs.SampleTables.{tables-are-sound}
 
@@ -36,3 +38,24 @@ pub rows-fine : (s : ℕ) → All IsFineRow (table_rows s)
 rows-fine s =
     All-from_get_or IsFineRow (table_rows s) (last_row 0)
     (λ x within. row-fine s x (omega (arith, within, (tables-are-sound s).count)))
+
+-- what holds of the records of fine rows holds of the records of some tables
+rows-all : (P : List (List ℕ) → Type 0)
+    → ((table : ℕ) (row : Row) → table < TABLES → IsFineRow row → P (row_fields table row))
+    → (left table s : ℕ) → left + table ≤ TABLES → All P (records_from left table s)
+unfolding records_from
+rows-all P each zero table s within = All-nil P
+rows-all P each (suc left) table s within =
+    let behind = state_behind_pairs LAST_AGE s in
+    All-append P (map (row_fields table) (table_rows s)) (records_from left (suc table) behind)
+    (All-map P (row_fields table) (table_rows s)
+    (All-weaker IsFineRow (λ row. P (row_fields table row)) (λ row. each table row (omega (arith, within)))
+    (table_rows s) (rows-fine s)))
+    (rows-all P each left (suc table) behind (omega (arith, within)))
+
+-- and, where it holds of record 1 too, of all records
+pub records-all : (P : List (List ℕ) → Type 0) → P header_fields
+    → ((table : ℕ) (row : Row) → table < TABLES → IsFineRow row → P (row_fields table row))
+    → (number : ℕ) → All P (sample_records number)
+records-all P header each number =
+    All-cons P header_fields (records_from TABLES 0 number) header (rows-all P each TABLES 0 number (omega arith))

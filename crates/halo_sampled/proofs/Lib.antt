@@ -8,3 +8,4 @@ pub mod PlacedRecords
 pub mod NamedRecords
 pub mod FieldsOfRecords
 pub mod FineRecords
+pub mod ShortTables

@@ -16,7 +16,7 @@ use Rattle.halo_sample.specs.Records.{header_fields, records_from, row_fields, s
 use Rattle.halo_sample.specs.Sample.{sample_tables}
 use Rattle.halo_sample.specs.Tables.{table_rows}
 use Rattle.halo_sample.proofs.SampleRecords.{tables-are-records}
-use Rattle.halo_sampled.proofs.FineRows.{IsFineRow, rows-fine}
+use Rattle.halo_sampled.proofs.FineRows.{IsFineRow, records-all}
 use Rattle.halo_sampled.proofs.NumbersOfRows.{IsNumber-decimal}
 use Rattle.halo_sampled.proofs.ReadRecords.{IsPlain, IsReadBack, lines-read_back, plain-read_back}
 
@@ -35,8 +35,8 @@ number-plain n small =
     (IsNumber-decimal n small).1)
 
 -- the record of a row is read back
-row-read_back : (table : ℕ) → table < TABLES → (row : Row) → IsFineRow row → IsReadBack (row_fields table row)
-row-read_back table known row fine =
+row-read_back : (table : ℕ) (row : Row) → table < TABLES → IsFineRow row → IsReadBack (row_fields table row)
+row-read_back table row known fine =
     plain-read_back (codes "t" ++ decimal table) (decimal row.age)
     (decimal row.alive ∷ decimal row.deaths ∷ decimal row.lapses ∷ [])
     (All-from_recursion IsPlain (row_fields table row) (
@@ -47,18 +47,7 @@ row-read_back table known row fine =
       (number-plain row.lapses (omega (arith, fine.fits, fine.most)), tt))))
     ))
 
--- and so are those of some tables
-rows-read_back : (left table s : ℕ) → left + table ≤ TABLES → All IsReadBack (records_from left table s)
-unfolding records_from
-rows-read_back zero table s within = All-nil IsReadBack
-rows-read_back (suc left) table s within =
-    let behind = state_behind_pairs LAST_AGE s in
-    All-append IsReadBack (map (row_fields table) (table_rows s)) (records_from left (suc table) behind)
-    (All-map IsReadBack (row_fields table) (table_rows s)
-    (All-weaker IsFineRow (λ row. IsReadBack (row_fields table row)) (row-read_back table (omega (arith, within)))
-    (table_rows s) (rows-fine s)))
-    (rows-read_back left (suc table) behind (omega (arith, within)))
-
+-- and so is record 1
 header-read_back : IsReadBack header_fields
 header-read_back =
     plain-read_back (codes "table") (codes "age") (codes "l" ∷ codes "death" ∷ codes "lapse" ∷ [])
@@ -70,5 +59,4 @@ unfolding strip_bom
 records-read number =
     ap records_of (tables-are-records number)
     ∙ lines-read_back (sample_records number)
-    (All-cons IsReadBack header_fields (records_from TABLES 0 number) header-read_back
-    (rows-read_back TABLES 0 number (omega arith)))
+    (records-all IsReadBack header-read_back row-read_back number)
