@@ -1,5 +1,5 @@
 -- The fields of the records of a sample's tables file.
-use Rattle.std.proofs.Common.{◌≡◌, ℕ, zero, suc, ◌+◌, ◌^◌, ◌<◌, ◌≤◌, List, [], ◌∷◌, ap, arith, codes, get_or, length, refl, true, ◌∙◌}
+use Rattle.std.proofs.Common.{◌≡◌, ℕ, zero, suc, ◌+◌, ◌<◌, ◌≤◌, [], ◌∷◌, ap, arith, codes, get_or, refl, true}
 use Rattle.std.proofs.lemmas.Fmt.{decimal_digit}
 use Rattle.std.proofs.lemmas.List.Elements.{All-from_recursion}
 use Rattle.halo_text.specs.Name.{IsName, is_name_byte}
@@ -11,7 +11,7 @@ use Rattle.halo_sample.specs.declared.tables.TheConstants.{TABLES}
 use Rattle.halo_sample.specs.Laws.{leavers}
 use Rattle.halo_sample.specs.Records.{header_fields, row_fields}
 use Rattle.halo_sampled.proofs.FineRows.{IsFineRow}
-use Rattle.halo_sampled.proofs.GroupedTables.{name_at}
+use Rattle.halo_sampled.proofs.NamesOfTables.{name_at}
 use Rattle.halo_sampled.proofs.NumbersOfRows.{IsNumber-decimal, number-decimal}
 
 -- the causes of record 1
@@ -25,7 +25,7 @@ cause-new (suc (suc (suc zero))) low high = record {
     short = omega arith;
     letter = refl;
     bytes = All-from_recursion (λ byte. is_name_byte byte ≡ true) (codes "death")
-    (refl, (refl, (refl, (refl, (refl, tt)))));
+        (refl, (refl, (refl, (refl, (refl, tt)))));
   };
   apart = λ i from below. absurd (omega (arith, from, below));
 }
@@ -35,12 +35,12 @@ cause-new (suc (suc (suc (suc zero)))) low high = record {
     short = omega arith;
     letter = refl;
     bytes = All-from_recursion (λ byte. is_name_byte byte ≡ true) (codes "lapse")
-    (refl, (refl, (refl, (refl, (refl, tt)))));
+        (refl, (refl, (refl, (refl, (refl, tt)))));
   };
   apart = λ i from below same.
-    let third : i ≡ 3 = omega (arith, from, below) in
-    let letters : 100 ≡ 108 = ap (λ name. get_or name 0 0) (rw third at same) in
-    absurd (omega (arith, letters));
+      let third : i ≡ 3 = omega (arith, from, below) in
+      let letters : 100 ≡ 108 = ap (λ name. get_or name 0 0) (rw third at same) in
+      absurd (omega (arith, letters));
 }
 cause-new (suc (suc (suc (suc (suc j))))) low high = absurd (omega (arith, high))
 
@@ -70,7 +70,7 @@ name-fine table known =
       short = omega arith;
       letter = refl;
       bytes = All-from_recursion (λ byte. is_name_byte byte ≡ true) (116 ∷ (48 + table) ∷ [])
-      (refl, (digit-in_name table known, tt));
+          (refl, (digit-in_name table known, tt));
     })
 
 module _ (table : ℕ) (row : Row) (fine : IsFineRow row) where
@@ -94,13 +94,15 @@ module _ (table : ℕ) (row : Row) (fine : IsFineRow row) where
   pub alive-read : number (field (row_fields table row) 2) ≡ row.alive
   alive-read = number-decimal row.alive (omega (arith, fine.most))
 
+  -- that of the deaths is theirs
   deaths-read : number (field (row_fields table row) 3) ≡ row.deaths
   deaths-read = number-decimal row.deaths (omega (arith, fine.fits, fine.most))
 
+  -- and that of the lapses theirs
   lapses-read : number (field (row_fields table row) 4) ≡ row.lapses
   lapses-read = number-decimal row.lapses (omega (arith, fine.fits, fine.most))
 
-  -- and the last two are those who leave
+  -- the last two are those who leave
   pub leavers-read : all_leavers (row_fields table row) ≡ leavers row
   leavers-read = rw (deaths-read, lapses-read) (omega arith)
 

@@ -1,9 +1,7 @@
 -- The rows of a sample's tables, grouped by their names, are the tables that are drawn.
-use Rattle.std.proofs.Common.{◌≡◌, ◌≢◌, ℕ, zero, suc, ◌+◌, ◌^◌, ◌<◌, ◌≤◌, List, [], ◌∷◌, ◌++◌, ap, arith, codes, false, inl, inr, map, refl, sym, true, ◌∙◌}
+use Rattle.std.proofs.Common.{◌≡◌, ◌≢◌, ℕ, zero, suc, ◌+◌, ◌≤◌, List, [], ◌∷◌, ◌++◌, ap, arith, codes, false, inl, inr, map, refl, sym, ◌∙◌}
 use Rattle.std.specs.Prelude.{All, bytes_eq, ⊤}
-use Rattle.std.specs.Fmt.{decimal}
 use Rattle.std.proofs.lemmas.Bool.{cases_Bool}
-use Rattle.std.proofs.lemmas.Fmt.{decimal_injective}
 use Rattle.std.proofs.lemmas.List.Elements.{All-head, All-same, All-tail}
 use Rattle.std.proofs.lemmas.Slice.Eq.{bytes_eq-Decides}
 use Rattle.halo_records.specs.Records.{records_of}
@@ -17,16 +15,9 @@ use Rattle.halo_sample.specs.Sample.{sample_tables}
 use Rattle.halo_sample.specs.Tables.{rows_from, table_rows}
 use Rattle.halo_sampled.specs.DrawnTables.{drawn_row, drawn_table, drawn_tables, tables_from}
 use Rattle.halo_sampled.proofs.FineRows.{IsFineRow, rows-fine}
+use Rattle.halo_sampled.proofs.NamesOfTables.{name_at, names-differ}
 use Rattle.halo_sampled.proofs.NumbersOfRows.{number-decimal}
 use Rattle.halo_sampled.proofs.PlainRecords.{records-read}
-
--- the name of the table with a number
-abbrev pub name_at : ℕ → List ℕ
-name_at table = codes "t" ++ decimal table
-
--- tables with two numbers have two names
-pub names-differ : (a b : ℕ) → a < 2 ^ 64 → b < 2 ^ 64 → a ≢ b → name_at a ≢ name_at b
-names-differ a b small_a small_b differ same = differ (decimal_injective a b small_a small_b (cc same))
 
 -- the first of some tables has another name, if there is one
 abbrev HasOtherName : List DecrementTable → List ℕ → Type 0
@@ -99,14 +90,17 @@ table-grouped table s rest other =
     rw begun (rows-grouped table row rows rest fine other ∙ ap with_age age)
 
 -- the tables from the next number on have another name than a table
-next-other : (left table s : ℕ) → left + suc table ≤ TABLES → HasOtherName (tables_from left (suc table) s) (name_at table)
+next-other : (left table s : ℕ) → left + suc table ≤ TABLES
+    → HasOtherName (tables_from left (suc table) s) (name_at table)
 unfolding tables_from
 next-other zero table s within = tt
 next-other (suc left) table s within =
     let next = name_at (suc table) in
     elim (cases_Bool (bytes_eq next (name_at table))) [
-      | inl same ↦ absurd (names-differ (suc table) table (omega (arith, within)) (omega (arith, within))
-          (λ e. absurd (omega (arith, e))) ((bytes_eq-Decides next (name_at table)).0 same))
+      | inl same ↦
+          let one = (bytes_eq-Decides next (name_at table)).0 same in
+          let differ : suc table ≢ table = λ e. absurd (omega (arith, e)) in
+          absurd (names-differ (suc table) table (omega (arith, within)) (omega (arith, within)) differ one)
       | inr other ↦ other
     ]
 

@@ -9,7 +9,7 @@ use Rattle.halo_table.specs.Record.{field, record_at}
 use Rattle.halo_table.proofs.Groups.{names_first, names_new, names_same, rows_none}
 use Rattle.halo_sample.specs.declared.tables.Row.{Row}
 use Rattle.halo_sample.specs.declared.tables.TheConstants.{LAST_AGE, TABLES}
-use Rattle.halo_sampled.proofs.GroupedTables.{name_at, names-differ}
+use Rattle.halo_sampled.proofs.NamesOfTables.{name_at, names-differ}
 use Rattle.halo_sampled.proofs.PlacedRecords.{AreRowsOf, name-changes, name-placed, name-stays, next-first_place, next-place, place}
 
 -- the names of the first tables
@@ -54,7 +54,8 @@ module _ (all : List (List (List ℕ))) (row : ℕ → ℕ → Row) (rows : AreR
       names_first all (omega (arith, rows.count))
       ∙ ap (λ name. name ∷ []) (name-placed all row rows 0 0 known (omega arith))
   names-begun (suc table) known =
-      let before = names-along table (omega (arith, known)) (names-begun table (omega (arith, known))) LAST_AGE (omega arith) in
+      let known_before : table < TABLES = omega (arith, known) in
+      let before = names-along table known_before (names-begun table known_before) LAST_AGE (omega arith) in
       let name : field (record_at all (place table LAST_AGE + 1)) 0 ≡ name_at (suc table)
       = ap (λ i. field (record_at all i) 0) (sym (next-first_place table))
       ∙ name-placed all row rows (suc table) 0 known (omega arith) in
@@ -76,4 +77,5 @@ module _ (all : List (List (List ℕ))) (row : ℕ → ℕ → Row) (rows : AreR
   names-at_first zero known = ap (λ records. names_of (grouped records)) (rows_none all)
   names-at_first (suc table) known =
       ap (names_before all) (next-first_place table)
-      ∙ names-along table (omega (arith, known)) (names-begun table (omega (arith, known))) LAST_AGE (omega arith)
+      ∙ names-along table (omega (arith, known)) (names-begun table (omega (arith, known)))
+      LAST_AGE (omega arith)

@@ -1,6 +1,5 @@
 -- The records of a sample's tables file, by table and age.
-use Rattle.std.proofs.Common.{◌≡◌, ◌≢◌, ℕ, suc, ◌+◌, ◌-◌, ◌*◌, ◌/◌, ◌%◌, ◌<◌, ◌≤◌, List, length, arith, refl, sym, ◌∙◌}
-use Rattle.std.proofs.Common.{ap}
+use Rattle.std.proofs.Common.{◌≡◌, ◌≢◌, ℕ, suc, ◌+◌, ◌-◌, ◌*◌, ◌/◌, ◌%◌, ◌<◌, ◌≤◌, List, ap, arith, length, refl, sym, ◌∙◌}
 use Rattle.halo_table.specs.Record.{field, record_at}
 use Rattle.halo_sample.specs.declared.tables.Row.{Row}
 use Rattle.halo_sample.specs.declared.tables.TheConstants.{LAST_AGE, TABLES}
@@ -11,7 +10,7 @@ use Rattle.halo_sample.specs.Tables.{staying, table_rows}
 use Rattle.halo_sample.proofs.RecordsByPlace.{records-are-counted, records-are-rows}
 use Rattle.halo_sample.proofs.SampleTables.{tables-are-sound}
 use Rattle.halo_sampled.proofs.FineRows.{IsFineRow, row-fine}
-use Rattle.halo_sampled.proofs.GroupedTables.{name_at, names-differ}
+use Rattle.halo_sampled.proofs.NamesOfTables.{name_at, names-differ}
 
 -- the place of the record of a table and an age
 abbrev pub place : ℕ → ℕ → ℕ
@@ -21,7 +20,8 @@ place table x = table * (LAST_AGE + 1) + x + 1
 pub record AreRowsOf (all : List (List (List ℕ))) (row : ℕ → ℕ → Row) : Type 0 where
   pub first : record_at all 0 ≡ header_fields
   pub count : length all ≡ TABLES * (LAST_AGE + 1) + 1
-  pub at : (table x : ℕ) → table < TABLES → x ≤ LAST_AGE → record_at all (place table x) ≡ row_fields table (row table x)
+  pub at : (table x : ℕ) → table < TABLES → x ≤ LAST_AGE
+      → record_at all (place table x) ≡ row_fields table (row table x)
   pub fine : (table x : ℕ) → x ≤ LAST_AGE → IsFineRow (row table x)
   pub age : (table x : ℕ) → x ≤ LAST_AGE → (row table x).age ≡ x
   pub next : (table x : ℕ) → x < LAST_AGE → (row table (suc x)).alive ≡ staying (row table x)
@@ -40,8 +40,8 @@ sample-placed number = record {
   fine = λ table x within. row-fine (state_behind_pairs (table * LAST_AGE) number) x within;
   age = λ table x within. (tables-are-sound (state_behind_pairs (table * LAST_AGE) number)).age x within;
   next = λ table x before.
-    let one : suc x ≡ x + 1 = omega arith in
-    rw one ((tables-are-sound (state_behind_pairs (table * LAST_AGE) number)).next x before);
+      let one : suc x ≡ x + 1 = omega arith in
+      rw one ((tables-are-sound (state_behind_pairs (table * LAST_AGE) number)).next x before);
   last = λ table. (tables-are-sound (state_behind_pairs (table * LAST_AGE) number)).last;
 }
 
@@ -51,10 +51,11 @@ pub place-of : (i : ℕ) → 0 < i → i < TABLES * (LAST_AGE + 1) + 1
 place-of i some within =
     ((i - 1) / (LAST_AGE + 1), (i - 1) % (LAST_AGE + 1), omega arith, omega arith, omega arith)
 
--- the place of the next age, and that of the first age of the next table
+-- the place of the next age
 pub next-place : (table x : ℕ) → place table (suc x) ≡ place table x + 1
 next-place table x = omega arith
 
+-- the place of the first age of the next table
 pub next-first_place : (table : ℕ) → place (suc table) 0 ≡ place table LAST_AGE + 1
 next-first_place table = omega arith
 

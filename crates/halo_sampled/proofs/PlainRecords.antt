@@ -1,20 +1,17 @@
 -- The records of a sample's tables file are read from it.
-use Rattle.std.proofs.Common.{◌≡◌, ◌==◌, ℕ, zero, suc, ◌+◌, ◌^◌, ◌<◌, ◌≤◌, List, [], ◌∷◌, ◌++◌, ap, arith, codes, false, map, refl, ◌∙◌}
-use Rattle.std.specs.Prelude.{All}
+use Rattle.std.proofs.Common.{◌≡◌, ◌==◌, ℕ, ◌^◌, ◌<◌, [], ◌∷◌, ◌++◌, ap, arith, codes, false, refl, ◌∙◌}
 use Rattle.std.specs.Fmt.{decimal}
 use Rattle.std.proofs.lemmas.Bool.{ne_eqb}
-use Rattle.std.proofs.lemmas.List.Elements.{All-append, All-cons, All-from_recursion, All-map, All-nil, All-weaker}
+use Rattle.std.proofs.lemmas.List.Elements.{All-from_recursion, All-weaker}
 use Rattle.std.proofs.lemmas.List.Folds.{list_any_none}
 use Rattle.csv.specs.Reading.{strip_bom}
 use Rattle.csv.specs.Writing.{default_writer, needs_byte}
 use Rattle.halo_records.specs.Records.{records_of}
 use Rattle.halo_text.specs.Number.{IsDigit}
 use Rattle.halo_sample.specs.declared.tables.Row.{Row}
-use Rattle.halo_sample.specs.declared.tables.TheConstants.{LAST_AGE, TABLES}
-use Rattle.halo_sample.specs.Generator.{state_behind_pairs}
-use Rattle.halo_sample.specs.Records.{header_fields, records_from, row_fields, sample_records}
+use Rattle.halo_sample.specs.declared.tables.TheConstants.{TABLES}
+use Rattle.halo_sample.specs.Records.{header_fields, row_fields, sample_records}
 use Rattle.halo_sample.specs.Sample.{sample_tables}
-use Rattle.halo_sample.specs.Tables.{table_rows}
 use Rattle.halo_sample.proofs.SampleRecords.{tables-are-records}
 use Rattle.halo_sampled.proofs.FineRows.{IsFineRow, records-all}
 use Rattle.halo_sampled.proofs.NumbersOfRows.{IsNumber-decimal}
@@ -41,10 +38,16 @@ row-read_back table row known fine =
     (decimal row.alive ∷ decimal row.deaths ∷ decimal row.lapses ∷ [])
     (All-from_recursion IsPlain (row_fields table row) (
       number-plain table (omega (arith, known)),
-      (number-plain row.age (omega (arith, fine.age)),
-      (number-plain row.alive (omega (arith, fine.most)),
-      (number-plain row.deaths (omega (arith, fine.fits, fine.most)),
-      (number-plain row.lapses (omega (arith, fine.fits, fine.most)), tt))))
+      (
+        number-plain row.age (omega (arith, fine.age)),
+        (
+          number-plain row.alive (omega (arith, fine.most)),
+          (
+            number-plain row.deaths (omega (arith, fine.fits, fine.most)),
+            (number-plain row.lapses (omega (arith, fine.fits, fine.most)), tt),
+          ),
+        ),
+      ),
     ))
 
 -- and so is record 1

@@ -1,5 +1,5 @@
 -- Records whose fields call for no quotes are read from their lines.
-use Rattle.std.proofs.Common.{◌≡◌, ℕ, List, [], ◌∷◌, ◌++◌, Some, append-nil, append_assoc, ap, false, refl, sym, ◌∙◌}
+use Rattle.std.proofs.Common.{◌≡◌, ℕ, List, [], ◌∷◌, ◌++◌, Some, append-nil, ap, false, refl, ◌∙◌}
 use Rattle.std.specs.Prelude.{All, flat_map}
 use Rattle.std.specs.List.{join_with_byte, list_any}
 use Rattle.std.proofs.lemmas.List.Elements.{All-head, All-tail}
@@ -38,7 +38,8 @@ unfolding is_blank
 plain-read_back field next rest all tail =
     let line : row_text default_writer (field ∷ next ∷ rest) ≡ record_line (field ∷ next ∷ rest) =
     ap (λ text. text ++ (10 ∷ []))
-    (joined-plain field (next ∷ rest) (All-head IsPlain field (next ∷ rest) all) (All-tail IsPlain field (next ∷ rest) all)) in
+    (joined-plain field (next ∷ rest) (All-head IsPlain field (next ∷ rest) all)
+    (All-tail IsPlain field (next ∷ rest) all)) in
     rw line at (read-write-many field next rest tail)
 
 -- records that are read back, one by one, are the records of their lines

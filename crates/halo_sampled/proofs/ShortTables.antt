@@ -16,10 +16,11 @@ use Rattle.halo_sampled.proofs.FineRows.{IsFineRow, records-all}
 abbrev IsShortLine : List (List ℕ) → Type 0
 IsShortLine fields = length (record_line fields) ≤ 100
 
+-- a number up to 10^9 has at most ten digits
 short : (n : ℕ) → n ≤ 10 ^ 9 → length (decimal n) ≤ 10
 short n small = length-decimal-le 10 n (lit< tt) (omega (arith, small)) (omega (arith, small))
 
--- that of a row has
+-- the line of a row has
 row-short : (table : ℕ) (row : Row) → table < TABLES → IsFineRow row → IsShortLine (row_fields table row)
 row-short table row known fine =
     simp length-append (omega (
@@ -39,6 +40,6 @@ tables-short number =
       ap length (tables-are-records number),
       length-flat_map record_line (sample_records number),
       sum_by-le (λ fields. length (record_line fields)) 100 (sample_records number)
-      (records-all IsShortLine (omega arith) row-short number),
+          (records-all IsShortLine (omega arith) row-short number),
       records-are-counted number,
     )
