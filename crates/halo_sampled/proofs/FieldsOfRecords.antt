@@ -12,7 +12,7 @@ use Rattle.halo_sample.specs.Laws.{leavers}
 use Rattle.halo_sample.specs.Records.{header_fields, row_fields}
 use Rattle.halo_sampled.proofs.FineRows.{IsFineRow}
 use Rattle.halo_sampled.proofs.NamesOfTables.{name_at}
-use Rattle.halo_sampled.proofs.NumbersOfRows.{IsNumber-decimal, number-decimal}
+use Rattle.halo_spell.proofs.NumbersBack.{IsNumber-decimal, number-decimal}
 
 -- the causes of record 1
 cause-new : (j : ℕ) → 3 ≤ j → j < 5 → IsNewCause header_fields j

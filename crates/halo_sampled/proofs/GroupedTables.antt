@@ -16,7 +16,7 @@ use Rattle.halo_sample.specs.Tables.{rows_from, table_rows}
 use Rattle.halo_sampled.specs.DrawnTables.{drawn_row, drawn_table, drawn_tables, tables_from}
 use Rattle.halo_sampled.proofs.FineRows.{IsFineRow, rows-fine}
 use Rattle.halo_sampled.proofs.NamesOfTables.{name_at, names-differ}
-use Rattle.halo_sampled.proofs.NumbersOfRows.{number-decimal}
+use Rattle.halo_spell.proofs.NumbersBack.{number-decimal}
 use Rattle.halo_sampled.proofs.PlainRecords.{records-read}
 
 -- the first of some tables has another name, if there is one

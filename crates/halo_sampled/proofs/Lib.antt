@@ -2,7 +2,6 @@
 pub mod ReadRecords
 pub mod FineRows
 pub mod PlainRecords
-pub mod NumbersOfRows
 pub mod NamesOfTables
 pub mod GroupedTables
 pub mod PlacedRecords

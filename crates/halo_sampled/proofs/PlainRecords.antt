@@ -14,7 +14,7 @@ use Rattle.halo_sample.specs.Records.{header_fields, row_fields, sample_records}
 use Rattle.halo_sample.specs.Sample.{sample_tables}
 use Rattle.halo_sample.proofs.SampleRecords.{tables-are-records}
 use Rattle.halo_sampled.proofs.FineRows.{IsFineRow, records-all}
-use Rattle.halo_sampled.proofs.NumbersOfRows.{IsNumber-decimal}
+use Rattle.halo_spell.proofs.NumbersBack.{IsNumber-decimal}
 use Rattle.halo_sampled.proofs.ReadRecords.{IsPlain, IsReadBack, lines-read_back, plain-read_back}
 
 -- a digit calls for no quotes
