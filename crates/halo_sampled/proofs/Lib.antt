@@ -1,11 +1,23 @@
--- What the laws of a sample's files are proved with.
-pub mod ReadRecords
-pub mod FineRows
-pub mod PlainRecords
-pub mod NamesOfTables
-pub mod GroupedTables
-pub mod PlacedRecords
-pub mod NamedRecords
-pub mod FieldsOfRecords
-pub mod FineRecords
-pub mod ShortTables
+-- What the laws of a sample's files are proved with: first of the tables, then of the contract.
+mod ReadRecords
+mod FineRows
+mod PlainRecords
+mod NamesOfTables
+mod GroupedTables
+mod PlacedRecords
+mod NamedRecords
+mod FieldsOfRecords
+mod FineRecords
+mod ShortTables
+mod ShortContract
+mod SampleLines
+mod SampleNames
+mod KnownNames
+mod SampleSymbols
+mod DrawnAges
+mod SampleDrafts
+mod LifeLines
+mod PayLines
+mod LastLines
+mod ContractOfSample
+pub mod NoFault

@@ -1,3 +1,4 @@
 -- The definitions that the laws of a sample's files cite.
 pub mod DrawnTables
+pub mod DrawnLines
 pub mod Laws

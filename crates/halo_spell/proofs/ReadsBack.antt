@@ -49,7 +49,7 @@ speaks (premium body) = refl
 speaks (reserve time names) = refl
 
 -- the text of a line that passes all checks is that line
-fine_text : (tables : TableFile) (d : Draft) (l : Line) → IsProperLine l → nest_line l ≤ 16 → PassesAll tables d l
+pub fine_text : (tables : TableFile) (d : Draft) (l : Line) → IsProperLine l → nest_line l ≤ 16 → PassesAll tables d l
     → IsFine tables d (line_text l) l
 fine_text tables d l proper deep passes = record {
   readable = record {

@@ -1,0 +1,5 @@
+use Rattle.halo_sampled.proofs.NoFault.{files-are-short}
+use Rattle.halo_sampled.proofs.laws.files_are_short.Goals as goal
+
+pub returns : goal.returns
+returns c = files-are-short
