@@ -32,6 +32,7 @@ ends-contract sample s =
     (λ all alive. ends-pays sample rates all alive last_drawn (λ ps are. ends-last sample rates all alive ps are)
     PAYS 0 behind [] (omega arith) no-pays))
 
+-- so the contract file of a number has none
 pub contract-has-no-fault : ContractHasNoFault
 contract-has-no-fault number =
     writes-contract (drawn_tables number) (sample_contract number) (drawn_lines number) (contract-is-lines number)

@@ -44,14 +44,16 @@ drawn-at (suc left) table s (suc p) lt =
     (drawn-at left (suc table) behind p (omega (arith, lt)))
 
 module _ (number : ℕ) where
+  -- their names
   abbrev drawn_names : List (List ℕ)
   drawn_names = names_of (drawn_tables number).tables
 
+  -- are so many
   count-of-names : length drawn_names ≡ TABLES
   count-of-names =
       length-map (tables_from TABLES 0 number) (λ (t : DecrementTable). t.name) ∙ drawn-count TABLES 0 number
 
-  -- the names of the tables are known
+  -- the name of a table is one of them
   pub table-is-known : (table : ℕ) → table < TABLES → Contains drawn_names (table_name table)
   table-is-known table lt =
       let within : table < length (tables_from TABLES 0 number) = omega (arith, lt, drawn-count TABLES 0 number) in
@@ -60,6 +62,7 @@ module _ (number : ℕ) where
       among_at drawn_names (table_name table) table (omega (arith, lt, count-of-names))
       (at ∙ (drawn-at TABLES 0 number table lt).named ∙ ap table_name same)
 
+  -- at a place of the file's
   pub place-is-low : (table : ℕ) → table < TABLES → place_of drawn_names (table_name table) < TABLES
   place-is-low table lt =
       omega (arith, place_of-lt drawn_names (table_name table) (table-is-known table lt), count-of-names)
@@ -68,6 +71,7 @@ module _ (number : ℕ) where
   pub last-age-is : (place : ℕ) → place < TABLES → last_age_of (drawn_tables number) place ≡ LAST_AGE
   last-age-is place lt = let at = drawn-at TABLES 0 number place lt in omega (arith, at.first, at.ages)
 
+  -- so it has a row at each age up to that
   pub age-is-there : (place age : ℕ) → place < TABLES → age ≤ LAST_AGE → HasRow (drawn_tables number) place age
   age-is-there place age lt within = record {
     table_in = omega (arith, lt, drawn-count TABLES 0 number);

@@ -10,7 +10,7 @@ use Rattle.halo_spell.proofs.NumbersBack.{IsNumber-decimal}
 use Rattle.halo_sampled.specs.DrawnLines.{first_reserve}
 use Rattle.halo_sampled.proofs.SampleNames.{first_byte, life-is-name}
 
--- the names of the lives are names
+-- each name of a life is a name
 pub name-1 : IsPlainName (codes "p1")
 unfolding digits
 name-1 = life-is-name 1 (omega arith)
@@ -43,7 +43,7 @@ pub name-8 : IsPlainName (codes "p8")
 unfolding digits
 name-8 = life-is-name 8 (omega arith)
 
--- which stand in the reserve of all lives
+-- and it is one of the names in the reserve of all lives
 pub known-1 : Contains first_reserve (codes "p1")
 known-1 = (0, omega arith, refl)
 
@@ -68,7 +68,7 @@ known-7 = (6, omega arith, refl)
 pub known-8 : Contains first_reserve (codes "p8")
 known-8 = (7, omega arith, refl)
 
--- the numbers are numbers
+-- the digits of each number write a number
 pub digits-1 : IsNumber (codes "1")
 unfolding digits
 digits-1 = IsNumber-decimal 1 (omega arith)
@@ -97,7 +97,7 @@ pub digits-30 : IsNumber (codes "30")
 unfolding digits
 digits-30 = IsNumber-decimal 30 (omega arith)
 
--- these facts together
+-- these facts, for a search
 pub ruleset lives_named = (name-1, name-2, name-3, name-4, name-5, name-6, name-7, name-8)
 
 pub ruleset lives_known = (known-1, known-2, known-3, known-4, known-5, known-6, known-7, known-8)
@@ -118,12 +118,13 @@ pub ruleset written = (
 abbrev pub sample_causes : List (List ℕ)
 sample_causes = codes "death" ∷ codes "lapse" ∷ []
 
--- one of them is named
+-- the one that is named is a name
 pub death-is-name : IsPlainName (codes "death")
 death-is-name = (
   (refl, All-from_recursion (λ b. is_name_byte b ≡ true) (codes "eath") (refl, (refl, (refl, (refl, tt))))),
   λ same. absurd (omega (arith, ap first_byte same)),
 )
 
+-- and it is one of them
 pub death-is-cause : All (Contains sample_causes) (codes "death" ∷ [])
 death-is-cause = All-from_recursion (Contains sample_causes) (codes "death" ∷ []) ((0, omega arith, refl), tt)

@@ -39,56 +39,68 @@ record IsSoundBody (names : List (List ℕ)) : Type 0 where
   declared : parts.AtEachNode (IsDeclared names) premium_body
   ranks : AtEachNode HasRank (tree_of_body (place_of names) premium_body)
 
+-- it passes them among the names of the lives
 sound-body : IsSoundBody first_reserve
 sound-body = search (rules, lives_known) depth 40
 
+-- its names are names, and its number is a number
 proper-body : IsProperBody premium_body
 proper-body = search (rules, written) depth 40
 
+-- it is within the limits
 body-within : IsStatusWithin premium_body
 body-within = search rules depth 40
 
+-- its term is of some years
 body-years : parts.AtEachNode HasYears premium_body
 body-years = search rules depth 40
 
--- the names of a reserve are short, and no two are equal
+-- the names of the first reserve are short
 first-are-short : All IsShortName first_reserve
 first-are-short = All-from_recursion IsShortName first_reserve (search rules depth 40)
 
+-- and those of the second
 second-are-short : All IsShortName second_reserve
 second-are-short = All-from_recursion IsShortName second_reserve (search rules depth 40)
 
+-- no two names of the first reserve are equal
 first-differ : AreDifferent first_reserve
 unfolding names_from digits
 first-differ = names-differ 1 8 (omega arith)
 
+-- and none of the second
 second-differ : AreDifferent second_reserve
 unfolding names_from digits
 second-differ = names-differ 2 3 (omega arith)
 
--- and they are names
+-- the names of the first reserve are names
 first-are-names : All IsPlainName first_reserve
 first-are-names = All-from_recursion IsPlainName first_reserve (search (rules, lives_named) depth 40)
 
+-- and those of the second
 second-are-names : All IsPlainName second_reserve
 second-are-names = All-from_recursion IsPlainName second_reserve (search (rules, lives_named) depth 40)
 
+-- those of the second are among those of the first
 second-are-known : All (Contains first_reserve) second_reserve
 second-are-known =
     All-from_recursion (Contains first_reserve) second_reserve (search (rules, lives_known) depth 40)
 
+-- a plain name is a name
 long-names : (names : List (List ℕ)) → All IsPlainName names → All IsLongName names
 long-names names are = All-weaker IsPlainName IsLongName (λ name is. is.0) names are
 
 module _ (sample : ℕ) (rates : List Rate) (lives : List LifeLine) (alive : AreLives LIVES lives)
     (pays : List PlainPay) (are : ArePays PAYS pays) where
+  -- the names of the lives
   names-are : life_names lives ≡ first_reserve
   names-are = alive.names ∙ all-names
 
-  -- the premium
+  -- the status of the premium passes its checks
   body-is-sound : IsSoundBody (life_names lives)
   body-is-sound = subst IsSoundBody (sym names-are) sound-body
 
+  -- so the premium passes all checks
   passes-premium : PassesAll (drawn_tables sample) (drafted rates lives pays) (premium premium_body)
   passes-premium kind.Magnitude = body-within
   passes-premium kind.Zero = body-years
@@ -99,6 +111,7 @@ module _ (sample : ℕ) (rates : List Rate) (lives : List LifeLine) (alive : Are
   passes-premium kind.NotAtStart = refl
   passes-premium k = tt
 
+  -- and it is a good line
   good-premium : IsGoodLine (drawn_tables sample) (drafted rates lives pays) (premium premium_body)
   good-premium = record { proper = proper-body; depth = omega arith; passes = passes-premium }
 
@@ -114,9 +127,10 @@ module _ (sample : ℕ) (rates : List Rate) (lives : List LifeLine) (alive : Are
       → All (IsAliveIfNamed (drawn_tables sample) names years) lives
   alive-then names years few =
       All-weaker IsSampleLife (IsAliveIfNamed (drawn_tables sample) names years)
-      (λ declared is among. omega (arith, is.age, few, last-age-is sample declared.life.table is.table)) lives alive.each
+      (λ declared is among. omega (arith, is.age, few, last-age-is sample declared.life.table is.table))
+      lives alive.each
 
-  -- a reserve
+  -- a reserve of such names at such a time passes all checks
   passes-reserve : (reserves : List ReserveLine) (time : List ℕ) (names : List (List ℕ)) → length reserves < 64
       → number time ≤ 40 → All IsShortName names → AreDifferent names → All (Contains first_reserve) names
       → PassesAll (drawn_tables sample) (reserved reserves) (reserve time names)
@@ -131,6 +145,7 @@ module _ (sample : ℕ) (rates : List Rate) (lives : List LifeLine) (alive : Are
       alive-then names (number time) years
   passes-reserve reserves time names few years short differ known k = tt
 
+  -- the first reserve is a good line
   good-first : IsGoodLine (drawn_tables sample) (reserved []) (reserve (codes "5") first_reserve)
   unfolding digits
   good-first = record {
@@ -140,12 +155,15 @@ module _ (sample : ℕ) (rates : List Rate) (lives : List LifeLine) (alive : Are
         (All-contains_itself first_reserve);
   }
 
+  -- what it adds
   abbrev first_line : ReserveLine
   first_line = record { time = number (codes "5"); alive = mask_of_names (life_names lives) first_reserve }
 
+  -- and what the second adds
   abbrev second_line : ReserveLine
   second_line = record { time = number (codes "10"); alive = mask_of_names (life_names lives) second_reserve }
 
+  -- the second reserve is a good line
   good-second : IsGoodLine (drawn_tables sample) (reserved (first_line ∷ [])) (reserve (codes "10") second_reserve)
   unfolding digits
   good-second = record {
@@ -171,6 +189,7 @@ module _ (sample : ℕ) (rates : List Rate) (lives : List LifeLine) (alive : Are
     };
   }
 
+  -- so the last lines have no fault
   pub ends-last : Ends (drawn_tables sample) (drafted rates lives pays) last_drawn
   unfolding with_line
   ends-last =

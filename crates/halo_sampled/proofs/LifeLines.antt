@@ -36,29 +36,36 @@ pub record AreLives (count : ℕ) (lives : List LifeLine) : Type 0 where
   pub names : life_names lives ≡ names_from 1 count
   pub each : All IsSampleLife lives
 
+-- at first there are none
 pub no-lives : AreLives 0 []
 unfolding names_from
 no-lives = record { names = refl; each = All-nil IsSampleLife }
 
+-- they are so many
 pub count-of-lives : (count : ℕ) (lives : List LifeLine) → AreLives count lives → length lives ≡ count
 count-of-lives count lives are =
     sym (length-map lives (λ (declared : LifeLine). declared.name)) ∙ ap length are.names ∙ count-of-names 1 count
 
--- the interest
+-- the line of the interest
 module _ (s : ℕ) where
+  -- how many hundredths it is
   abbrev rate : ℕ
   rate = 1 + drawn RATES s
 
+  -- at most nine
   rate-is-low : rate ≤ 9
   rate-is-low = omega (arith, drawn-below RATES s (omega arith))
 
+  -- and its digits write it
   rate-is : number (decimal rate) ≡ rate
   rate-is = number-decimal rate (omega (arith, rate-is-low))
 
+  -- the digits of the other number write one
   hundred-is-number : IsNumber (codes "100")
   unfolding digits
   hundred-is-number = IsNumber-decimal 100 (omega arith)
 
+  -- it passes all checks
   passes-interest : (tables : TableFile) → PassesAll tables empty_draft (interest_drawn s)
   passes-interest tables kind.Magnitude =
       (omega (arith, rate-is, rate-is-low), omega arith, All-nil IsRateWithin, omega arith)
@@ -69,6 +76,7 @@ module _ (s : ℕ) where
   passes-interest tables kind.Twice = λ came. came refl
   passes-interest tables k = tt
 
+  -- so it is a good line
   pub good-interest : (tables : TableFile) → IsGoodLine tables empty_draft (interest_drawn s)
   good-interest tables = record {
     proper = (IsNumber-decimal rate (omega (arith, rate-is-low)), hundred-is-number, All-nil IsProperRate);
@@ -76,9 +84,10 @@ module _ (s : ℕ) where
     passes = passes-interest tables;
   }
 
--- a life
+-- the line of the life behind so many
 module _ (sample : ℕ) (rates : List Rate) (lives : List LifeLine) (count s : ℕ)
     (few : count < LIVES) (are : AreLives count lives) where
+  -- its table, its age, and the line
   abbrev table : ℕ
   table = drawn TABLES s
 
@@ -88,21 +97,27 @@ module _ (sample : ℕ) (rates : List Rate) (lives : List LifeLine) (count s : �
   abbrev line : Line
   line = life_drawn (suc count) s
 
+  -- the place of its table in the file
   abbrev place : ℕ
   place = place_of (names_of (drawn_tables sample).tables) (table_name table)
 
+  -- the table is one of those that are drawn
   table-is-low : table < TABLES
   table-is-low = drawn-below TABLES s (omega arith)
 
+  -- the age is not high
   age-is-low : age < YOUNGEST + AGES
   age-is-low = omega (arith, drawn-below AGES (next_state s) (omega arith))
 
+  -- and its digits write it
   age-is : number (decimal age) ≡ age
   age-is = number-decimal age (omega (arith, age-is-low))
 
+  -- the place is one of the file's
   place-low : place < TABLES
   place-low = place-is-low sample table table-is-low
 
+  -- it passes all checks
   passes-life : PassesAll (drawn_tables sample) (drafted rates lives []) line
   passes-life kind.Magnitude = (
     life-is-short (suc count) (omega (arith, few)),
@@ -119,6 +134,7 @@ module _ (sample : ℕ) (rates : List Rate) (lives : List LifeLine) (count s : �
       rw age-is (age-is-there sample place age place-low (omega (arith, age-is-low)))
   passes-life k = tt
 
+  -- so it is a good line
   good-life : IsGoodLine (drawn_tables sample) (drafted rates lives []) line
   good-life = record {
     proper = (
@@ -130,10 +146,11 @@ module _ (sample : ℕ) (rates : List Rate) (lives : List LifeLine) (count s : �
     passes = passes-life;
   }
 
-  -- what it declares, and the lives with it
+  -- what it declares
   abbrev declared : LifeLine
   declared = record { name = life_name (suc count); life = record { table = place; age = number (decimal age) } }
 
+  -- the lives with that one
   lives-push : AreLives (suc count) (lives ++ declared ∷ [])
   lives-push =
       let next : 1 + count ≡ suc count = omega arith in
@@ -145,6 +162,7 @@ module _ (sample : ℕ) (rates : List Rate) (lives : List LifeLine) (count s : �
             (record { table = place-low; age = omega (arith, age-is, age-is-low) });
       }
 
+  -- where the lines behind it have no fault, neither have they with it
   pub ends-life : (lines : List Line)
       → ((more : List LifeLine) → AreLives (suc count) more → Ends (drawn_tables sample) (drafted rates more []) lines)
       → Ends (drawn_tables sample) (drafted rates lives []) (line ∷ lines)
@@ -153,7 +171,7 @@ module _ (sample : ℕ) (rates : List Rate) (lives : List LifeLine) (count s : �
       ends-line (drawn_tables sample) (drafted rates lives []) line lines good-life
       (rest (lives ++ declared ∷ []) lives-push)
 
--- all lives that are left
+-- and so for all lives that are left
 pub ends-lives : (sample : ℕ) (rates : List Rate) (lines : List Line) (left count s : ℕ) (lives : List LifeLine)
     → count + left ≡ LIVES → AreLives count lives
     → ((all : List LifeLine) → AreLives LIVES all → Ends (drawn_tables sample) (drafted rates all []) lines)

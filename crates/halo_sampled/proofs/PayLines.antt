@@ -30,6 +30,7 @@ pub record ArePays (count : ℕ) (pays : List PlainPay) : Type 0 where
   pub count_is : length pays ≡ count
   pub amounts : amount_of_all pays ≤ count * AMOUNTS
 
+-- at first there are none
 pub no-pays : ArePays 0 []
 no-pays = record { count_is = refl; amounts = omega arith }
 
@@ -38,26 +39,31 @@ pub all-names : names_from 1 LIVES ≡ first_reserve
 unfolding names_from digits
 all-names = refl
 
--- a pay
+-- the line of the pay behind so many
 module _ (sample : ℕ) (rates : List Rate) (lives : List LifeLine) (alive : AreLives LIVES lives)
     (pays : List PlainPay) (count s : ℕ) (few : count < PAYS) (are : ArePays count pays) where
+  -- its amount and its symbol
   abbrev amount : ℕ
   amount = 1 + drawn AMOUNTS s
 
   abbrev symbol : Symbol
   symbol = symbol_at (drawn_second SYMBOLS s)
 
+  -- the symbol passes its checks
   sound : IsSoundSymbol (life_names lives) symbol
   sound =
       subst (λ names. IsSoundSymbol names symbol) (sym (alive.names ∙ all-names))
       (symbol-is-sound (drawn_second SYMBOLS s) (drawn-below SYMBOLS (next_state s) (omega arith)))
 
+  -- the amount is not high
   amount-is-low : amount ≤ AMOUNTS
   amount-is-low = omega (arith, drawn-below AMOUNTS s (omega arith))
 
+  -- and its digits write it
   amount-is : number (decimal amount) ≡ amount
   amount-is = number-decimal amount (omega (arith, amount-is-low))
 
+  -- it passes all checks
   passes-pay : PassesAll (drawn_tables sample) (drafted rates lives pays) (pay_drawn s)
   passes-pay kind.Magnitude = (
     omega (arith, amount-is, amount-is-low),
@@ -75,6 +81,7 @@ module _ (sample : ℕ) (rates : List Rate) (lives : List LifeLine) (alive : Are
   passes-pay kind.Shared = sound.apart
   passes-pay k = tt
 
+  -- so it is a good line
   good-pay : IsGoodLine (drawn_tables sample) (drafted rates lives pays) (pay_drawn s)
   good-pay = record {
     proper = (IsNumber-decimal amount (omega (arith, amount-is-low)), sound.proper);
@@ -82,10 +89,11 @@ module _ (sample : ℕ) (rates : List Rate) (lives : List LifeLine) (alive : Are
     passes = passes-pay;
   }
 
-  -- what it promises, and the pays with it
+  -- what it promises
   abbrev promised : PlainPay
   promised = pay_written (life_names lives) sample_causes (decimal amount) symbol
 
+  -- the pays with that one
   pays-push : ArePays (suc count) (pays ++ promised ∷ [])
   pays-push = record {
     count_is = length_push pays promised ∙ omega (arith, are.count_is);
@@ -98,6 +106,7 @@ module _ (sample : ℕ) (rates : List Rate) (lives : List LifeLine) (alive : Are
     );
   }
 
+  -- where the lines behind it have no fault, neither have they with it
   ends-pay : (lines : List Line)
       → ((more : List PlainPay) → ArePays (suc count) more
       → Ends (drawn_tables sample) (drafted rates lives more) lines)
@@ -107,7 +116,7 @@ module _ (sample : ℕ) (rates : List Rate) (lives : List LifeLine) (alive : Are
       ends-line (drawn_tables sample) (drafted rates lives pays) (pay_drawn s) lines good-pay
       (rest (pays ++ promised ∷ []) pays-push)
 
--- all pays that are left
+-- and so for all pays that are left
 module _ (sample : ℕ) (rates : List Rate) (lives : List LifeLine) (alive : AreLives LIVES lives) (lines : List Line)
     (rest : (all : List PlainPay) → ArePays PAYS all → Ends (drawn_tables sample) (drafted rates lives all) lines) where
   pub ends-pays : (left count s : ℕ) (pays : List PlainPay) → count + left ≡ PAYS → ArePays count pays

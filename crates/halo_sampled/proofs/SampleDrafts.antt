@@ -33,25 +33,28 @@ drafted rates lives pays = record {
   reserves = [];
 }
 
--- a line of a form that comes next is in order
+-- behind an interest, lives and pays a premium is in order
 pub premium-in-order : (rates : List Rate) (lives : List LifeLine) (pays : List PlainPay)
     → IsInOrder (drafted rates lives pays) form.Premium
 premium-in-order rates lives pays =
     let d = drafted rates lives pays in
     order_from_next d form.Premium form.Reserve refl (λ came. omega (arith, came)) (last_in_order d form.Reserve refl)
 
+-- and a pay
 pub pay-in-order : (rates : List Rate) (lives : List LifeLine) (pays : List PlainPay)
     → IsInOrder (drafted rates lives pays) form.Pay
 pay-in-order rates lives pays =
     order_from_next (drafted rates lives pays) form.Pay form.Premium refl (λ came. came refl)
     (premium-in-order rates lives pays)
 
+-- and a life where there are no pays
 pub life-in-order : (rates : List Rate) (lives : List LifeLine) → IsInOrder (drafted rates lives []) form.Life
 life-in-order rates lives =
     let d = drafted rates lives [] in
     order_from_next d form.Life form.Ties refl (λ came. came refl)
     (order_from_next d form.Ties form.Pay refl (λ came. omega (arith, came)) (pay-in-order rates lives []))
 
+-- and an interest at first
 pub interest-in-order : IsInOrder empty_draft form.Interest
 interest-in-order =
     let d = empty_draft in
@@ -81,9 +84,11 @@ pub record IsGoodLine (tables : TableFile) (d : Draft) (l : Line) : Type 0 where
   pub passes : PassesAll tables d l
 
 module _ (tables : TableFile) where
+  -- no lines end at a draft that is done
   pub ends-none : (d : Draft) → IsDone d → Ends tables d []
   ends-none d done = record { final = d; makes = refl; proper = All-nil IsProperLine; done = done }
 
+  -- and a good line comes before lines that end
   pub ends-line : (d : Draft) (l : Line) (lines : List Line) → IsGoodLine tables d l
       → Ends tables (with_line tables d l) lines → Ends tables d (l ∷ lines)
   ends-line d l lines good rest = record {
@@ -103,8 +108,7 @@ module _ (tables : TableFile) where
       let makes : MakesDraft tables empty_draft (lines_of (lines_text lines)) ends.final =
       subst (λ ts. MakesDraft tables empty_draft ts ends.final) (sym texts) ends.makes in
       let writes : WritesContract tables (lines_text lines) (contract_made ends.final) =
-      record { draft = ends.final; lines = makes; whole = ends.done.whole; made = refl } in
-      (
+      record { draft = ends.final; lines = makes; whole = ends.done.whole; made = refl } in (
         contract_made ends.final,
         subst (λ bs. WritesContract tables bs (contract_made ends.final)) (sym is) writes,
         ends.done.sample,

@@ -27,12 +27,13 @@ symbol-written : (choice : ℕ) → choice < SYMBOLS → text_of (symbol_at choi
 unfolding symbol_text
 symbol-written choice known = sym (get_or-map text_of drawn_symbols choice on_last [] known)
 
--- the words of a line are those of the sample
+-- the words of the line of the interest are those of the sample
 interest-written : (s : ℕ) → line_words (interest_drawn s) ≡ interest_words s
 interest-written s =
     ap (λ word. codes "interest" ∷ word ∷ [])
     (append_assoc (decimal (1 + drawn RATES s)) (codes "/") (codes "100"))
 
+-- and so are those of a pay
 pay-written : (s : ℕ) → line_words (pay_drawn s) ≡ pay_words s
 pay-written s =
     ap (λ word. codes "pay" ∷ decimal (1 + drawn AMOUNTS s) ∷ word ∷ [])
@@ -47,6 +48,7 @@ lines-written line words each zero number s = refl
 lines-written line words each (suc left) number s =
     ap₂ (λ w ws. w ∷ ws) (each number s) (lines-written line words each left (suc number) (state_behind_two s))
 
+-- and those of all lines
 words-written : (s : ℕ) → map line_words (contract_drawn s) ≡ contract_words s
 words-written s =
     let behind = state_behind_pairs LIVES (next_state s) in
@@ -64,6 +66,7 @@ words-written s =
     ∙ ap₂ (λ ls ps. ls ++ (ps ++ last_words)) same_lives same_pays
     ∙ sym (append_assoc life_lines pay_lines last_words))
 
+-- so the contract file is the text of these lines
 pub contract-is-lines : (number : ℕ) → sample_contract number ≡ lines_text (drawn_lines number)
 contract-is-lines number =
     contract-is-words number

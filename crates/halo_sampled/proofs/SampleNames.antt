@@ -19,6 +19,7 @@ use Rattle.halo_sampled.proofs.ShortContract.{few-digits}
 digit-in-name : (b : ℕ) → IsDigit b → is_name_byte b ≡ true
 digit-in-name b digit = grind arith
 
+-- so may the digits of a number
 digits-in-name : (n : ℕ) → n < 2 ^ 64 → All (λ b. is_name_byte b ≡ true) (decimal n)
 digits-in-name n small =
     All-weaker IsDigit (λ b. is_name_byte b ≡ true) digit-in-name (decimal n) (IsNumber-decimal n small).1
@@ -27,17 +28,19 @@ digits-in-name n small =
 abbrev pub first_byte : List ℕ → ℕ
 first_byte text = get_or text 0 0
 
--- so the names are names
+-- the name of a life is a name
 pub life-is-name : (n : ℕ) → n < 2 ^ 64 → IsPlainName (life_name n)
 life-is-name n small = ((refl, digits-in-name n small), λ same. absurd (omega (arith, ap first_byte same)))
 
+-- and so is that of a table
 pub table-is-name : (n : ℕ) → n < 2 ^ 64 → IsLongName (table_name n)
 table-is-name n small = (refl, digits-in-name n small)
 
--- and short
+-- the name of a life is short
 pub life-is-short : (n : ℕ) → n < 1000000 → IsShortName (life_name n)
 life-is-short n small = omega (arith, few-digits n small)
 
+-- and so is that of a table
 pub table-is-short : (n : ℕ) → n < 1000000 → IsShortName (table_name n)
 table-is-short n small = omega (arith, few-digits n small)
 
@@ -46,6 +49,7 @@ unfoldable pub names_from : ℕ → ℕ → List (List ℕ)
 names_from first zero = []
 names_from first (suc count) = life_name first ∷ names_from (suc first) count
 
+-- they are so many
 pub count-of-names : (first count : ℕ) → length (names_from first count) ≡ count
 unfolding names_from
 count-of-names first zero = refl

@@ -35,16 +35,18 @@ pub record IsSoundSymbol (names : List (List ℕ)) (s : Symbol) : Type 0 where
   pub lasting : s.kind ≡ Insurance → IsLasting (tree_of_symbol (place_of names) s)
   pub apart : IfSome s.mark (λ mark. OfMembers AreApart (tree_of_symbol (place_of names) s))
 
--- a mark needs members that share nothing, as different lives do
+-- different lives share nothing, as the members of a marked list have to
 apart : (i j : ℕ) → i ≢ j → SharesNothing (life i) (life j)
 apart i j other = record {
   lives = λ k first second. other (sym (eqb-true k i first) ∙ eqb-true k j second);
   terms = λ n named. absurd (cc named);
 }
 
+-- the members of the marked list
 first_three : Trees
 first_three = more (life 0) (more (life 1) (more (life 2) none))
 
+-- each of them is a life
 one-of-three : (p : ℕ) (s : Tree) → member_at first_three p ≡ Some s → s ≡ life p
 unfolding first_three
 one-of-three zero s at = cc
@@ -52,6 +54,7 @@ one-of-three (suc zero) s at = cc
 one-of-three (suc (suc zero)) s at = cc
 one-of-three (suc (suc (suc p))) s at = absurd cc
 
+-- so they share nothing
 three-apart : AreApart first_three
 three-apart p q s t other at_p at_q = rw (one-of-three p s at_p, one-of-three q t at_q) (apart p q other)
 
@@ -94,10 +97,19 @@ sound-term = search (rules, written) depth 40
 sound-later : IsSoundSymbol first_reserve on_later
 sound-later = search (rules, written) depth 40
 
--- each symbol that is drawn is such
+ruleset each_sound = (
+  sound-last,
+  sound-first_death,
+  sound-reversion,
+  sound-at_least,
+  sound-exactly,
+  sound-cause,
+  sound-term,
+  sound-later,
+)
+
+-- so the symbol that is drawn is
 pub symbol-is-sound : (choice : ℕ) → choice < 8 → IsSoundSymbol first_reserve (symbol_at choice)
 symbol-is-sound choice known =
     All-get_or (IsSoundSymbol first_reserve) drawn_symbols choice on_last known
-    (All-from_recursion (IsSoundSymbol first_reserve) drawn_symbols
-    (sound-last, (sound-first_death, (sound-reversion, (sound-at_least,
-    (sound-exactly, (sound-cause, (sound-term, (sound-later, tt)))))))))
+    (All-from_recursion (IsSoundSymbol first_reserve) drawn_symbols (search each_sound depth 20))

@@ -21,12 +21,13 @@ short-symbol choice known =
     All-get_or (λ text. length text ≤ 40) symbols choice [] known
     (All-from_recursion (λ text. length text ≤ 40) symbols (search rules))
 
--- so is each line
+-- so is the line of the interest
 short-interest : (s : ℕ) → length (interest_line s) ≤ 100
 short-interest s =
     let rate = few-digits (1 + drawn RATES s) (omega (arith, drawn-below RATES s (omega arith))) in
     simp length-append (omega (arith, rate))
 
+-- and that of a life
 short-life : (number s : ℕ) → number < 1000 → length (life_line number s) ≤ 100
 short-life number s low =
     let name = few-digits number (omega (arith, low)) in
@@ -35,13 +36,14 @@ short-life number s low =
     (omega (arith, drawn-below AGES (next_state s) (omega arith))) in
     simp length-append (omega (arith, name, table, age))
 
+-- and that of a pay
 short-pay : (s : ℕ) → length (pay_line s) ≤ 100
 short-pay s =
     let amount = few-digits (1 + drawn AMOUNTS s) (omega (arith, drawn-below AMOUNTS s (omega arith))) in
     let symbol = short-symbol (drawn_second SYMBOLS s) (drawn-below SYMBOLS (next_state s) (omega arith)) in
     simp length-append (omega (arith, amount, symbol))
 
--- and so many lines
+-- so many lines are so short
 short-lines : (line : ℕ → ℕ → List ℕ) → ((number s : ℕ) → number < 1000 → length (line number s) ≤ 100)
     → (left number s : ℕ) → number + left ≤ 1000 → length (lines_from line left number s) ≤ left * 100
 unfolding lines_from
@@ -51,7 +53,7 @@ short-lines line each (suc left) number s low =
     let rest = short-lines line each left (suc number) (state_behind_two s) (omega (arith, low)) in
     simp length-append (omega (arith, here, rest))
 
--- so is the file
+-- so the file is short, from whichever state it is drawn
 short-contract : (s : ℕ) → length (contract_text s) ≤ 65536
 short-contract s =
     let behind = state_behind_pairs LIVES (next_state s) in
@@ -69,5 +71,6 @@ short-contract s =
       length-append (interest_line s ++ lives ++ pays) last_lines,
     )
 
+-- and for whichever number
 pub contract-is-short : (number : ℕ) → length (sample_contract number) ≤ 65536
 contract-is-short number = short-contract (state_behind_pairs (TABLES * LAST_AGE) number)
