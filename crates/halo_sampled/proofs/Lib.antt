@@ -7,7 +7,7 @@ mod GroupedTables
 mod PlacedRecords
 mod NamedRecords
 mod FieldsOfRecords
-mod FineRecords
+pub mod FineRecords
 mod ShortTables
 mod ShortContract
 mod SampleLines
@@ -19,5 +19,5 @@ mod SampleDrafts
 mod LifeLines
 mod PayLines
 mod LastLines
-mod ContractOfSample
-pub mod NoFault
+pub mod ContractOfSample
+pub mod ShortFiles

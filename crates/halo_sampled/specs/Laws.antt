@@ -1,7 +1,6 @@
 -- What holds of the files of every sample.
 use Rattle.std.specs.Prelude.{ℕ, ◌≡◌, ◌≢◌, ◌≤◌, None, length}
 use Rattle.halo_records.specs.Records.{records_of}
-use Rattle.halo_table.specs.DecrementTable.{TableFile}
 use Rattle.halo_table.specs.Faults.{NoFault}
 use Rattle.halo_table.specs.Grouping.{tables_of}
 use Rattle.halo_contract.specs.PlainContract.{PlainContract}
