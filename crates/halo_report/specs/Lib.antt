@@ -8,3 +8,4 @@ pub mod CoefficientText
 pub mod PaysText
 pub mod FormText
 pub mod ExplainText
+pub mod SampleText

@@ -9,8 +9,12 @@ abbrev pub premium_lines : Option Nano → List ℕ
 premium_lines None = []
 premium_lines (Some ends) = value_line (codes "premium") ends
 
--- the lines of the pays, the total, the premium and the reserves
+-- the lines behind those of the pays: the total, the premium and the reserves
+abbrev pub last_lines : PlainReport → List ℕ
+last_lines report =
+    value_line (codes "total") report.total ++ premium_lines report.premium
+    ++ numbered_lines (codes "reserve") 1 report.reserves
+
+-- the lines of the pays, and those behind them
 abbrev pub report_text : PlainReport → List ℕ
-report_text report =
-    numbered_lines (codes "pay") 1 report.pays ++ value_line (codes "total") report.total
-    ++ premium_lines report.premium ++ numbered_lines (codes "reserve") 1 report.reserves
+report_text report = numbered_lines (codes "pay") 1 report.pays ++ last_lines report

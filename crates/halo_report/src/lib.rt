@@ -1,5 +1,5 @@
 //! The texts of what a contract is worth: the report of its values, its compiled forms and the
-//! parts of its pays; and the text of commutation columns.
+//! parts of its pays; the text of commutation columns, and the summary of a sample.
 #![tactic(auto)]
 
 mod coefficient;
@@ -8,6 +8,7 @@ mod explain;
 mod form;
 pub mod laws;
 mod pays;
+mod sample;
 #[cfg(test)]
 mod tests;
 mod text;
@@ -18,5 +19,6 @@ pub use explain::explain_text;
 pub use form::form_text;
 pub use halo_lines::{LARGEST_PRINTED, Part, ValueReport};
 /// There was not enough memory.
+pub use sample::sample_text;
 pub use std::alloc::AllocError as Memory;
 pub use value::value_text;

@@ -3,7 +3,7 @@ ghost use Rattle.std.specs.Prelude.{◌≡◌, ◌++◌, All, IfOk, OnOk};
 ghost use Rattle.halo_lines.specs.Printable.{IsPrintable, IsPrintableReport};
 ghost use Rattle.halo_lines.specs.Report.{report_of};
 ghost use Rattle.halo_report.specs.Lines.{value_line, numbered_lines};
-ghost use Rattle.halo_report.specs.ValueText.{report_text};
+ghost use Rattle.halo_report.specs.ValueText.{last_lines, report_text};
 
 use crate::Memory;
 use crate::text::{write_bytes, write_ends, write_number};
@@ -20,12 +20,20 @@ pub fn value_text(alloc: Global, report: &ValueReport) -> Result<Vec<u8>, Memory
 {
     let mut text = Vec::new(alloc);
     write_numbered(b"pay", &report.pays, &mut text)?;
-    write_line(b"total", report.total, &mut text)?;
-    if let Some(premium) = report.premium {
-        write_line(b"premium", premium, &mut text)?;
-    }
-    write_numbered(b"reserve", &report.reserves, &mut text)?;
+    write_last_lines(report, &mut text)?;
     Ok(text)
+}
+
+/// Writes the lines behind those of the pays behind a text.
+pub fn write_last_lines(report: &ValueReport, into: &mut Vec<u8>) -> Result<(), Memory>
+    requires { IsPrintableReport (report_of report.now) }
+    ensures { OnOk result (into.new.items ≡ into.old.items ++ last_lines (report_of report.now)) }
+{
+    write_line(b"total", report.total, into)?;
+    if let Some(premium) = report.premium {
+        write_line(b"premium", premium, into)?;
+    }
+    write_numbered(b"reserve", &report.reserves, into)
 }
 
 // Writes a line: a word and the two ends.
