@@ -4,6 +4,7 @@ mod CompiledForms
 mod Files
 mod OneAnswer
 mod Runs
+mod Samples
 mod SomeAnswer
 mod Told
 mod Words

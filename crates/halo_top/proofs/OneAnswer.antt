@@ -16,13 +16,14 @@ use Rattle.halo_parse.specs.declared.fault.ContractKind.{ContractKind}
 use Rattle.halo_parse.specs.declared.fault.ContractKind.TheVariants as wrong
 use Rattle.halo_parse.proofs.laws.OneFault.{contract_is_one, first_fault_is_one, no_fault_is_first}
 use Rattle.halo_top.specs.Arguments.{IsArgumentFault, TellsColumns, TellsNamed}
-use Rattle.halo_top.specs.Command.{Asks, Request, of_columns, of_contract, request_words, task_word}
+use Rattle.halo_top.specs.Command.{Asks, Request, of_columns, of_contract, of_sample, request_words, task_word}
 use Rattle.halo_top.specs.Input.{AreTables, HasContract, HasContractFault, HasTableFault, limit_of}
 use Rattle.halo_top.specs.Laws.{AnswerIsOne, AreAlike, AreOfOneTable, AreOneAnswer}
 use Rattle.halo_top.specs.Refusal.{argument_status, contract_status, line_of, status_of}
 use Rattle.halo_top.specs.Verdict.{Answered, AreBothRead, AreRead, IsAnswer, IsColumnsAnswer, IsContractAnswer}
 use Rattle.halo_top.specs.Verdict.{IsRead, IsTextOf, ReadsAll, Refused, Refuses, RefusesColumns, RefusesContract}
-use Rattle.halo_top.specs.Verdict.{Shelved}
+use Rattle.halo_top.specs.Verdict.{RefusesSample, Shelved}
+use Rattle.halo_top.specs.Sample.{IsSampleFault}
 use Rattle.halo_top.specs.declared.refusal.ArgumentKind.{ArgumentKind}
 use Rattle.halo_top.specs.declared.refusal.ArgumentKind.TheVariants as argument
 use Rattle.halo_top.specs.declared.command.Task.{Task}
@@ -278,11 +279,37 @@ one-request (of_contract t tables contract) (of_contract u others other) e =
     cc (one-task t u word, a, b)
 one-request (of_contract t tables contract) (of_columns others name fraction) e = absurd (omega (arith, ap length e))
 one-request (of_columns tables name fraction) (of_contract u others other) e = absurd (omega (arith, ap length e))
+one-request (of_contract t tables contract) (of_sample number) e = absurd (omega (arith, ap length e))
+one-request (of_sample number) (of_contract t tables contract) e = absurd (omega (arith, ap length e))
+one-request (of_columns tables name fraction) (of_sample number) e = absurd (omega (arith, ap length e))
+one-request (of_sample number) (of_columns tables name fraction) e = absurd (omega (arith, ap length e))
+one-request (of_sample number) (of_sample other) e = let a : number ≡ other = cc e in ap of_sample a
 one-request (of_columns tables name fraction) (of_columns others other part) e =
     let a : tables ≡ others = cc e in
     let b : name ≡ other = cc e in
     let c : fraction ≡ part = cc e in
     cc (a, b, c)
+
+-- one thing is wrong with the number of a sample
+one-sample-fault : (word : List ℕ) (a b : ArgumentKind) → IsSampleFault word a → IsSampleFault word b → a ≡ b
+one-sample-fault word argument.Syntax argument.Syntax h also = refl
+one-sample-fault word argument.Syntax argument.Magnitude h also = absurd (h also.0)
+one-sample-fault word argument.Magnitude argument.Syntax h also = absurd (also h.0)
+one-sample-fault word argument.Magnitude argument.Magnitude h also = refl
+one-sample-fault word argument.Zero b h also = absurd h
+one-sample-fault word argument.NoTable b h also = absurd h
+one-sample-fault word a argument.Zero h also = absurd also
+one-sample-fault word a argument.NoTable h also = absurd also
+
+-- a refusal of a sample is of its number
+of-number : (P : Refusal → Type 0) (word : List ℕ)
+    → ((k : ArgumentKind) → IsSampleFault word k → P (refusal.Argument k)) → (r : Refusal) → RefusesSample word r → P r
+of-number P word each refusal.Usage h = absurd h
+of-number P word each (refusal.Read f) h = absurd h
+of-number P word each (refusal.TooLong f) h = absurd h
+of-number P word each (refusal.Table fault) h = absurd h
+of-number P word each (refusal.Contract fault) h = absurd h
+of-number P word each (refusal.Argument k) h = each k h
 
 -- what is asked for has one answer
 module _ (shelf : Shelved) where
@@ -293,6 +320,9 @@ module _ (shelf : Shelved) where
   one-refusal-of (of_columns tables name fraction) read r other h also =
       cc (one-of-columns shelf tables name fraction read (Some r) (Some other)
       (mistake-judged shelf tables name fraction read r h) (mistake-judged shelf tables name fraction read other also))
+  one-refusal-of (of_sample word) read r other h also =
+      of-number (λ q. q ≡ other) word (λ k is. of-number (λ q. refusal.Argument k ≡ q) word
+      (λ l too. ap refusal.Argument (one-sample-fault word k l is too)) other also) r h
 
   answer-or-refusal-of : {R : Type 0} (request : Request) → AreRead request shelf → (text : List ℕ) (r : Refusal)
       → IsAnswer request shelf text → Refuses request shelf r → R
@@ -301,6 +331,8 @@ module _ (shelf : Shelved) where
   answer-or-refusal-of (of_columns tables name fraction) read text r answer h =
       cc (one-of-columns shelf tables name fraction read None (Some r)
       (columns-judged shelf tables name fraction read text answer) (mistake-judged shelf tables name fraction read r h))
+  answer-or-refusal-of {R} (of_sample word) read text r answer h =
+      of-number (λ q. R) word (λ k is. absurd (answer.fine k is)) r h
 
   alike : (request : Request) → AreRead request shelf → (text other : List ℕ) → IsAnswer request shelf text
       → IsAnswer request shelf other → AreAlike request shelf text other
@@ -313,6 +345,7 @@ module _ (shelf : Shelved) where
   }
   alike (of_columns tables name fraction) read text other a b =
       of-one-table shelf tables name fraction read text other a b
+  alike (of_sample word) read text other a b = record { text_is = a.told; other_is = b.told }
 
 module _ (words : List (List ℕ)) (shelf : Shelved) (reads : ReadsAll words shelf)
     (request : Request) (asks : Asks words request) where

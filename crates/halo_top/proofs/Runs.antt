@@ -3,7 +3,7 @@ use Rattle.std.proofs.Common.{◌≡◌, ◌≢◌, ℕ, List, arith, refl, sym,
 use Rattle.std.proofs.Math.Decide.{ℕ_discrete}
 use Rattle.halo_io.specs.Told.{AppendsTold, TookPrefix}
 use Rattle.halo_top.specs.Command.{IsCommand}
-use Rattle.halo_top.specs.Run.{HasFailed, IsRun, Sunk}
+use Rattle.halo_top.specs.Run.{AskForMemory, HasFailed, IsRun, Sunk}
 use Rattle.halo_top.specs.Verdict.{CallsFor, Shelved}
 use Rattle.halo_top.specs.declared.refusal.Refusal.TheVariants as refusal
 use Rattle.halo_top.proofs.OneAnswer.{answer-is-one, refusal-status}
@@ -52,11 +52,11 @@ module _ (words : List (List ℕ)) (shelf : Shelved) (sink : Sunk) where
     ];
   }
 
-  pub run_without_memory : IsCommand words → IsRun words shelf sink 9
-  run_without_memory command = record {
+  pub run_without_memory : AskForMemory words → IsRun words shelf sink 9
+  run_without_memory (request, asks, takes) = record {
     answer = λ fine memory. absurd (memory refl);
     write_fault = λ one. absurd (omega (arith, one));
-    memory = λ memory. command;
+    memory = λ memory. (request, asks, takes);
     complete = λ other text reads sure calls. inr refl;
-    usage = λ none. absurd (none command);
+    usage = λ none. absurd (none (request, asks));
   }

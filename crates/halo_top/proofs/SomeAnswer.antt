@@ -1,7 +1,7 @@
 -- Where the files are told as far as they are needed, words and files call for an answer.
 use Rattle.std.proofs.Common.{◌≡◌, ℕ, ◌^◌, List, [], ◌∷◌, length, arith, refl, inl, inr, ap}
 use Rattle.std.proofs.Math.Decide.{dec_le}
-use Rattle.std.proofs.Common.{◌⊎◌, ◌+◌, ◌-◌, ◌≤◌}
+use Rattle.std.proofs.Common.{◌⊎◌, ◌+◌, ◌-◌, ◌≤◌, subst, sym}
 use Rattle.std.specs.Prelude.{Result, Ok, Err, codes}
 use Rattle.halo_records.specs.Records.{records_of}
 use Rattle.halo_interest.specs.Rates.{rate_of}
@@ -9,7 +9,7 @@ use Rattle.halo_interest.specs.declared.rate.Rate.{Rate}
 use Rattle.halo_table.specs.DecrementTable.{TableFile}
 use Rattle.halo_table.specs.Grouping.{tables_of}
 use Rattle.halo_table.specs.Sound.{IsSound}
-use Rattle.halo_table.proofs.Deciding.{dec_bytes}
+use Rattle.halo_table.proofs.Deciding.{dec_bytes, dec_number}
 use Rattle.halo_table.proofs.FirstFault.{fault_or_none}
 use Rattle.halo_table.proofs.Soundness.{sound_of_fine}
 use Rattle.halo_contract.specs.PlainContract.{PlainContract}
@@ -26,14 +26,20 @@ use Rattle.halo_report.specs.ExplainText.{explain_text}
 use Rattle.halo_report.specs.FormText.{form_text}
 use Rattle.halo_report.specs.ValueText.{report_text}
 use Rattle.halo_report.specs.ColumnsText.{columns_text}
+use Rattle.halo_report.specs.SampleText.{sample_text}
+use Rattle.halo_sample.specs.Sample.{sample_contract, sample_tables}
+use Rattle.halo_text.specs.Number.{number}
 use Rattle.halo_spell.specs.ContractText.{contract_text}
 use Rattle.halo_value.proofs.SomeForms.{contracts-have-forms}
 use Rattle.halo_value.proofs.SomeParts.{contracts-have-explanations}
 use Rattle.halo_top.specs.Arguments.{HasName, IsArgumentFault, ReadsInterest}
-use Rattle.halo_top.specs.Command.{Asks, IsCommand, Request, of_columns, of_contract, task_word}
+use Rattle.halo_top.specs.Command.{Asks, IsCommand, Request, of_columns, of_contract, of_sample, task_word}
 use Rattle.halo_top.specs.Input.{AreTables, HasContract}
 use Rattle.halo_top.specs.Laws.{AnswerExists}
 use Rattle.halo_top.specs.Refusal.{line_of, status_of}
+use Rattle.halo_top.specs.Sample.{HasNoSampleFault, IsSampleFault, TellsSample}
+use Rattle.halo_top.proofs.Samples.{no-sample-fault, samples-have-no-fault}
+use Rattle.halo_top.specs.declared.sample.TheConstants.{GREATEST_SAMPLE}
 use Rattle.halo_top.specs.Verdict.{AreBothRead, AreRead, CallsFor, IsAnswer, IsRead, IsTextOf, Refuses, Shelved}
 use Rattle.halo_top.specs.declared.refusal.ArgumentKind.{ArgumentKind}
 use Rattle.halo_top.specs.declared.refusal.ArgumentKind.TheVariants as argument
@@ -137,21 +143,33 @@ no-task : (word tables contract : List ℕ) → ((t : Task) → word ≡ task_wo
     → IsCommand (word ∷ tables ∷ contract ∷ []) → ⊥
 no-task word tables contract none (of_contract t a b, e) = none t (cc e)
 no-task word tables contract none (of_columns a b c, e) = absurd (omega (arith, ap length e))
+no-task word tables contract none (of_sample a, e) = absurd (omega (arith, ap length e))
 
 no-columns : (word tables name fraction : List ℕ) → (word ≡ codes "columns" → ⊥)
     → IsCommand (word ∷ tables ∷ name ∷ fraction ∷ []) → ⊥
 no-columns word tables name fraction none (of_contract t a b, e) = absurd (omega (arith, ap length e))
 no-columns word tables name fraction none (of_columns a b c, e) = none (cc e)
+no-columns word tables name fraction none (of_sample a, e) = absurd (omega (arith, ap length e))
 
-no-number : (words : List (List ℕ)) → (length words ≡ 3 → ⊥) → (length words ≡ 4 → ⊥) → IsCommand words → ⊥
-no-number words not_three not_four (of_contract t a b, e) = not_three (ap length e)
-no-number words not_three not_four (of_columns a b c, e) = not_four (ap length e)
+no-sample : (word number : List ℕ) → (word ≡ codes "sample" → ⊥) → IsCommand (word ∷ number ∷ []) → ⊥
+no-sample word number none (of_contract t a b, e) = absurd (omega (arith, ap length e))
+no-sample word number none (of_columns a b c, e) = absurd (omega (arith, ap length e))
+no-sample word number none (of_sample a, e) = none (cc e)
+
+no-number : (words : List (List ℕ)) → (length words ≡ 2 → ⊥) → (length words ≡ 3 → ⊥) → (length words ≡ 4 → ⊥)
+    → IsCommand words → ⊥
+no-number words not_two not_three not_four (of_contract t a b, e) = not_three (ap length e)
+no-number words not_two not_three not_four (of_columns a b c, e) = not_four (ap length e)
+no-number words not_two not_three not_four (of_sample a, e) = not_two (ap length e)
 
 dec_command : (words : List (List ℕ)) → Dec (IsCommand words)
-dec_command [] = no (no-number [] (λ e. absurd (omega (arith, e))) (λ e. absurd (omega (arith, e))))
-dec_command (a ∷ []) = no (no-number (a ∷ []) (λ e. absurd (omega (arith, e))) (λ e. absurd (omega (arith, e))))
-dec_command (a ∷ b ∷ []) =
-    no (no-number (a ∷ b ∷ []) (λ e. absurd (omega (arith, e))) (λ e. absurd (omega (arith, e))))
+dec_command [] = no (no-number [] (λ e. omega (arith, e)) (λ e. omega (arith, e)) (λ e. omega (arith, e)))
+dec_command (a ∷ []) =
+    no (no-number (a ∷ []) (λ e. omega (arith, e)) (λ e. omega (arith, e)) (λ e. omega (arith, e)))
+dec_command (a ∷ b ∷ []) = elim (dec_bytes a (codes "sample")) [
+  | yes is ↦ yes (of_sample b, ap (λ (word : List ℕ). word ∷ b ∷ []) is)
+  | no none ↦ no (no-sample a b none)
+]
 dec_command (a ∷ b ∷ c ∷ []) = elim (a-task-or-none a) [
   | inl (t, is) ↦ yes (of_contract t b c, ap (λ (word : List ℕ). word ∷ b ∷ c ∷ []) is)
   | inr none ↦ no (no-task a b c none)
@@ -161,7 +179,7 @@ dec_command (a ∷ b ∷ c ∷ d ∷ []) = elim (dec_bytes a (codes "columns")) 
   | no none ↦ no (no-columns a b c d none)
 ]
 dec_command (a ∷ b ∷ c ∷ d ∷ e ∷ rest) =
-    no (no-number (a ∷ b ∷ c ∷ d ∷ e ∷ rest) (λ e. absurd (omega (arith, e))) (λ e. absurd (omega (arith, e))))
+    no (no-number (a ∷ b ∷ c ∷ d ∷ e ∷ rest) (λ e. omega (arith, e)) (λ e. omega (arith, e)) (λ e. omega (arith, e)))
 
 -- an interest is something
 some-part : (fraction : List ℕ) (interest : List Rate) → ReadsFraction fraction (Ok interest)
@@ -223,9 +241,49 @@ arguments-call shelf tables name fraction read = elim (dec_le (length read.all) 
   ]
 ]
 
+-- the number of a sample can be told, or what is wrong with it
+a-sample-number : (word : List ℕ) → HasNoSampleFault word ⊎ ((k : ArgumentKind) × IsSampleFault word k)
+a-sample-number word = elim (dec_number word) [
+  | no other ↦ inr (argument.Syntax, other)
+  | yes is ↦ elim (dec_le (number word) GREATEST_SAMPLE) [
+    | no above ↦ inr (argument.Magnitude, (is, omega (arith, above)))
+    | yes within ↦ inl (no-sample-fault word is within)
+  ]
+]
+
+-- each sample has a summary
+a-summary : (n : ℕ) → (text : List ℕ) × TellsSample n text
+a-summary n =
+    let sample = samples-have-no-fault n in
+    let tables = sample.0 in
+    let contract = sample.1 in
+    let holds = sample.2 in
+    let fine = holds.tables_in.in_order.fine in
+    let sound = subst IsSound (sym holds.tables_in.tables_are) (sound_of_fine _ fine) in
+    let valid = contracts_are_valid tables (sample_contract n) contract holds.contract_in.writes in
+    let report = contracts-have-reports tables sound contract valid in (
+      sample_text n (length (sample_tables n)) (length (sample_contract n)) report.0,
+      record {
+        tables = tables;
+        contract = contract;
+        report = report.0;
+        holds = holds;
+        encloses = report.1;
+        text_is = refl;
+      },
+    )
+
+number-calls : (shelf : Shelved) (word : List ℕ) → Calls (of_sample word) shelf
+number-calls shelf word = elim (a-sample-number word) [
+  | inl fine ↦ let summary = a-summary (number word) in
+      answers summary.0 (record { fine = fine; told = summary.1 })
+  | inr (k, fault) ↦ refuses (refusal.Argument k) fault
+]
+
 request-calls : (request : Request) (shelf : Shelved) → AreRead request shelf → Calls request shelf
 request-calls (of_contract t tables contract) shelf read = files-call t shelf tables contract read
 request-calls (of_columns tables name fraction) shelf read = arguments-call shelf tables name fraction read
+request-calls (of_sample word) shelf read = number-calls shelf word
 
 module _ (words : List (List ℕ)) (shelf : Shelved) (request : Request) (asks : Asks words request) where
   called : Calls request shelf → (status : ℕ) × (text : List ℕ) × CallsFor words shelf status text

@@ -2,6 +2,7 @@
 pub mod Command
 pub mod Input
 pub mod Arguments
+pub mod Sample
 pub mod Refusal
 pub mod Verdict
 pub mod Run

@@ -2,8 +2,8 @@
 use Rattle.std.specs.Prelude.{◌≡◌, ◌≢◌, ℕ, ◌⊎◌, List, Option}
 use Rattle.halo_io.specs.Counts.{Rose}
 use Rattle.halo_io.specs.Told.{AppendsTold, TookPrefix}
-use Rattle.halo_top.specs.Command.{IsCommand}
-use Rattle.halo_top.specs.Verdict.{CallsFor, ReadsAll, Shelved}
+use Rattle.halo_top.specs.Command.{Asks, IsCommand, Request}
+use Rattle.halo_top.specs.Verdict.{CallsFor, ReadsAll, Shelved, TakesMemory}
 use Rattle.halo_top.specs.declared.no_words.NoWords.{NoWords}
 use Rattle.halo_top.specs.declared.no_words.NoWords.TheVariants as none
 
@@ -41,6 +41,10 @@ pub record IsCutOff (words : List (List ℕ)) (shelf : Shelved) (sink : Sunk) : 
   pub called : CallsFor words shelf status text
   pub taken : TookPrefix sink.taken_before sink.taken_now text
 
+-- the words ask for something that may take memory
+abbrev pub AskForMemory : List (List ℕ) → Type 0
+AskForMemory words = (request : Request) × Asks words request × TakesMemory request
+
 -- with these words, these files and this sink a run ends with this status
 pub record IsRun (words : List (List ℕ)) (shelf : Shelved) (sink : Sunk) (status : ℕ)
     : Type 0 where
@@ -48,8 +52,8 @@ pub record IsRun (words : List (List ℕ)) (shelf : Shelved) (sink : Sunk) (stat
   pub answer : status ≢ 1 → status ≢ 9 → IsSaid words shelf sink status
   -- 1 comes only where a write failed
   pub write_fault : status ≡ 1 → IsCutOff words shelf sink
-  -- 9 comes only where the words are a command
-  pub memory : status ≡ 9 → IsCommand words
+  -- 9 comes only where the words are a command, in which nothing is wrong with a sample's number
+  pub memory : status ≡ 9 → AskForMemory words
   -- where the files are read as far as they are needed and no write failed, the status is the one
   -- that is called for, or 9
   pub complete : (called : ℕ) (text : List ℕ) → ReadsAll words shelf → (HasFailed sink → ⊥)

@@ -18,10 +18,11 @@ use Rattle.halo_report.specs.ValueText.{report_text}
 use Rattle.halo_spell.specs.ContractText.{contract_text}
 use Rattle.halo_value.specs.Forms.{AreForms}
 use Rattle.halo_top.specs.Arguments.{IsArgumentFault, TellsNamed}
-use Rattle.halo_top.specs.Command.{Asks, IsCommand, Request, of_columns, of_contract}
+use Rattle.halo_top.specs.Command.{Asks, IsCommand, Request, of_columns, of_contract, of_sample}
 use Rattle.halo_top.specs.Input.{AreTables, HasContract, HasContractFault, HasTableFault, HasTables}
 use Rattle.halo_top.specs.Input.{limit_of}
 use Rattle.halo_top.specs.Refusal.{line_of, status_of}
+use Rattle.halo_top.specs.Sample.{HasNoSampleFault, IsSampleAnswer, IsSampleFault}
 use Rattle.halo_top.specs.declared.command.Task.{Task}
 use Rattle.halo_top.specs.declared.command.Task.TheVariants as task
 use Rattle.halo_top.specs.declared.refusal.InputFile.TheVariants as file
@@ -87,6 +88,7 @@ IsAnswer (of_contract t tables contract) shelf text =
     IsContractAnswer t shelf tables contract text
 IsAnswer (of_columns tables name fraction) shelf text =
     IsColumnsAnswer shelf tables name fraction text
+IsAnswer (of_sample number) shelf text = IsSampleAnswer number text
 
 -- the tables file of this name is in order, where it is told
 abbrev pub TablesInOrder : Shelved → List ℕ → Type 0
@@ -127,15 +129,27 @@ RefusesColumns shelf tables name fraction (refusal.Argument fault) = (file : Tab
     × IsArgumentFault file name fraction fault
 RefusesColumns shelf tables name fraction r = RefusesTables shelf tables r
 
+-- this is wrong with the number of a sample
+abbrev pub RefusesSample : List ℕ → Refusal → Type 0
+RefusesSample number (refusal.Argument fault) = IsSampleFault number fault
+RefusesSample number _ = ⊥
+
 -- this is the first thing that is wrong with what is asked for
 abbrev pub Refuses : Request → Shelved → Refusal → Type 0
 Refuses (of_contract t tables contract) shelf r = RefusesContract shelf tables contract r
 Refuses (of_columns tables name fraction) shelf r = RefusesColumns shelf tables name fraction r
+Refuses (of_sample number) shelf r = RefusesSample number r
 
--- what is answered to what is asked for, or why nothing is; want of memory is free
+-- what is asked for may take memory: what is wrong with the number of a sample is told without any
+abbrev pub TakesMemory : Request → Type 0
+TakesMemory (of_sample number) = HasNoSampleFault number
+TakesMemory _ = ⊤
+
+-- what is answered to what is asked for, or why nothing is; want of memory is free where memory is
+-- taken
 abbrev pub Answers : Request → Shelved → Result (Vec ℕ) Stop → Type 0
 Answers request shelf (Ok text) = IsAnswer request shelf text.items
-Answers request shelf (Err stop.Memory) = ⊤
+Answers request shelf (Err stop.Memory) = TakesMemory request
 Answers request shelf (Err (stop.Refused r)) = Refuses request shelf r
 
 -- a refusal of words and files: the words are no command, or something is wrong with what they ask
@@ -170,6 +184,7 @@ pub record AreBothRead (shelf : Shelved) (tables contract : List ℕ) : Type 0 w
 abbrev pub AreRead : Request → Shelved → Type 0
 AreRead (of_contract t tables contract) shelf = AreBothRead shelf tables contract
 AreRead (of_columns tables name fraction) shelf = IsRead shelf tables
+AreRead (of_sample number) shelf = ⊤
 
 -- the files that the words name, if they are a command, are read as far as they are needed
 abbrev pub ReadsAll : List (List ℕ) → Shelved → Type 0

@@ -38,6 +38,8 @@ pub enum Command<'a> {
     Contract(ContractCommand<'a>),
     /// `columns`.
     Columns(ColumnsCommand<'a>),
+    /// `sample`, with the word of its number.
+    Sample(&'a str),
 }
 
 impl<'a> Command<'a> {
@@ -61,6 +63,7 @@ impl<'a> Command<'a> {
                     fraction: fraction.as_str(),
                 }))
             }
+            [word, number] if word.as_str() == "sample" => Some(Command::Sample(number.as_str())),
             _ => None,
         }
     }

@@ -12,6 +12,7 @@ pub mod laws;
 mod no_words;
 mod program;
 mod refusal;
+mod sample;
 mod value;
 
 pub use no_words::NoWords;

@@ -17,6 +17,7 @@ use crate::explain::explain;
 use crate::input::{load_contract, load_tables};
 use crate::no_words::NoWords;
 use crate::refusal::{Refusal, Stop};
+use crate::sample::sample;
 use crate::value::value;
 use halo_contract::Contract;
 use halo_io::{Shelf, Sink, put_all};
@@ -69,13 +70,17 @@ pub fn run_words<S: Shelf, K: Sink>(
 /// | 3 | only where the shelf's count of faults of the file rose |
 /// | 4 | where the file is longer than its limit |
 /// | 5 | where the tables file has a fault, with the first faulty record |
-/// | 6, 7, 8 | where the contract file has a fault, or the arguments of `columns` have one |
-/// | 9 | for want of memory; nothing was written, and the words were a command |
+/// | 6, 7, 8 | where the contract file has a fault, or an argument of `columns` or `sample` |
+/// | 9 | for want of memory; nothing was written |
+///
+/// Where the words are no command, or something is wrong with the number of a sample, that is told
+/// without memory.
 ///
 /// `value T C` writes the report of the contract in the file C with the tables in the file T,
 /// `check T C` its canonical text, `compile T C` the compiled forms of its pays and of its premium,
 /// and `explain T C` the parts of each pay. `columns T NAME P/Q` writes the commutation columns of
-/// the table NAME in the file T at the yearly interest P/Q.
+/// the table NAME in the file T at the yearly interest P/Q. `sample N` makes the two files of the
+/// number N, values them, and writes a summary; it reads no file.
 ///
 /// The two decimals of each line of a report enclose the exact value of the contract that the files
 /// write, as far as they are told, and those of columns the exact entry.
@@ -109,6 +114,7 @@ fn answer<S: Shelf>(alloc: Global, command: &Command<'_>, shelf: &mut S) -> Resu
     match command {
         Command::Contract(command) => answer_of_contract(alloc, command, shelf),
         Command::Columns(command) => answer_of_columns(alloc, command, shelf),
+        Command::Sample(number) => sample(alloc, number),
     }
 }
 

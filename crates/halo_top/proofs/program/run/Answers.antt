@@ -1,7 +1,7 @@
 use Rattle.std.proofs.Common.{inr, refl}
 use Rattle.halo_top.specs.Refusal.{line_of, status_of}
 use Rattle.halo_top.specs.declared.refusal.Refusal.TheVariants as refusal
-use Rattle.halo_top.proofs.Calls.{calls_for_line, calls_for_text, is_command}
+use Rattle.halo_top.proofs.Calls.{asks_for_memory, calls_for_line, calls_for_text}
 use Rattle.halo_top.proofs.Runs.{run_without_memory, run_writes}
 use Rattle.halo_top.proofs.program.run.Goals as goal
 
@@ -23,7 +23,8 @@ returns-in-Err-Refused-clause-run g c =
 
 pub returns-in-Err-Memory-clause-run : goal.returns-in-Err-Memory-clause-run
 returns-in-Err-Memory-clause-run g c =
-    run_without_memory _ _ _ (is_command _ c.in-Some.command c.in-Some.ensures)
+    run_without_memory _ _ _ (asks_for_memory _ c.in-Some.command c.in-Some.ensures
+    (rw c.in-Err-Memory.field-0-is at c.in-Err-Memory.ensures.answer))
 
 pub returns-in_default-clause-run : goal.returns-in_default-clause-run
 returns-in_default-clause-run g c =
