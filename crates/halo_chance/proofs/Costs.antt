@@ -8,6 +8,9 @@ use Rattle.halo_status.specs.StatusTree.{tree_of, trees_in}
 use Rattle.halo_model.specs.PartsByTree.{others_of}
 use Rattle.halo_chance.specs.Cost.{CostsMembers, CostsTree}
 
+squared : (n : ℕ) → n ^ 2 ≡ n * n
+squared n = pow-succ' n 1 ∙ ap (λ z. n * z) (pow-succ' n 0 ∙ ap (λ z. n * z) (pow-zero n) ∙ omega arith)
+
 pub cost-leaf : (old : ℕ) → CostsTree old old 1
 unfolding CostsTree
 cost-leaf old most h = omega arith
@@ -38,9 +41,6 @@ cost-member old before member new count rest all a b h small most k = omega (ari
 pub cost-whole : (old new count : ℕ) → CostsTree old new count → new ≤ old + 2 * (count + 1) ^ 2
 unfolding CostsTree
 cost-whole old new count c = let h = c count (omega arith) in rw (squared (count + 1)) (omega (arith, h))
-  where
-    squared : (n : ℕ) → n ^ 2 ≡ n * n
-    squared n = pow-succ' n 1 ∙ ap (λ z. n * z) (pow-succ' n 0 ∙ ap (λ z. n * z) (pow-zero n) ∙ omega arith)
 
 -- each node counts
 pub nodes-positive : (s : Tree) → 1 ≤ nodes s
@@ -75,6 +75,19 @@ cost-mark old others marked new ms place s e a b next =
     let shares : all * nodes s + all * nodes_in (others_of ms place) ≡ all * nodes_in ms =
     rw (sym split) (omega arith) in
     rw (squared (nodes (joint ms) + 1)) (omega (arith, one, two, shares, next))
+
+-- the loss of the marked member costs at most what the loss of a status does
+pub cost-mark-loss : (old others marked new : ℕ) (ms : Trees) (place : ℕ) (s : Tree) → member_at ms place ≡ Some s
+    → CostsMembers old others (nodes_in (others_of ms place)) (nodes_in ms)
+    → marked ≤ others + 4 * (nodes s + 1) ^ 2
+    → new ≡ marked + 1 → new ≤ old + 4 * (nodes (joint ms) + 1) ^ 2
+unfolding CostsMembers
+cost-mark-loss old others marked new ms place s e a b next =
+    let one = a (nodes_in ms + 1) (omega arith) in
+    let two = rw (squared (nodes s + 1)) at b in
+    rw (squared (nodes (joint ms) + 1))
+    (apart (nodes s) (nodes_in (others_of ms place)) (nodes_in ms) (nodes-split ms place s e) one two)
   where
-    squared : (n : ℕ) → n ^ 2 ≡ n * n
-    squared n = pow-succ' n 1 ∙ ap (λ z. n * z) (pow-succ' n 0 ∙ ap (λ z. n * z) (pow-zero n) ∙ omega arith)
+    apart : (x y all : ℕ) → x + y ≡ all → others ≤ old + 2 * (all + 1) * y
+        → marked ≤ others + 4 * ((x + 1) * (x + 1)) → new ≤ old + 4 * ((1 + all + 1) * (1 + all + 1))
+    apart x y all split one two = rw (sym split) (omega (arith, rw (sym split) at one, two, next))

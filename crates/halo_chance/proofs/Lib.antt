@@ -6,3 +6,5 @@ pub mod Whole
 pub mod Losses
 pub mod Present
 pub mod Others
+pub mod Agreeing
+pub mod MarkLosses

@@ -76,7 +76,7 @@ put-same : (a m : ℕ) (f : ℕ → ℕ) → put_for a m f a ≡ m
 put-same zero m f = refl
 put-same (suc a) m f = put-same a m (after_first f)
 
-put-other : (a i m : ℕ) (f : ℕ → ℕ) → i ≢ a → put_for a m f i ≡ f i
+pub put-other : (a i m : ℕ) (f : ℕ → ℕ) → i ≢ a → put_for a m f i ≡ f i
 put-other zero zero m f other = absurd (other refl)
 put-other zero (suc i) m f other = refl
 put-other (suc a) zero m f other = refl

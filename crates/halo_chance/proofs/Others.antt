@@ -1,6 +1,6 @@
 -- The members of a list but one, from the last one on.
 use Rattle.std.proofs.Common.{◌≡◌, ◌≢◌, ℕ, zero, suc, ◌+◌, ◌-◌, ◌*◌, ◌<◌, ◌≤◌, arith, refl, subst, Bool, true, false, cond, nat_eq, nat_le, List, [], ◌∷◌, length, drop, Some, ⊎_elim}
-use Rattle.std.specs.Prelude.{slice_get}
+use Rattle.std.specs.Prelude.{IsSomeAnd, slice_get}
 use Rattle.std.proofs.lemmas.Bool.{cases_lt}
 use Rattle.std.proofs.lemmas.Bool.Decides.{nat_tests}
 use Rattle.halo_num.specs.Ends.{Ends}
@@ -85,6 +85,11 @@ pub member-tree : (ms : List Status) (place : ℕ) (s : Status) → slice_get ms
 member-tree [] place s e = absurd (cc)
 member-tree (m ∷ ms) zero s e = let q : m ≡ s = grind arith in rw q refl
 member-tree (m ∷ ms) (suc place) s e = member-tree ms place s e
+
+-- and what is told of it
+pub member-has : (P : Tree → Type 0) (ms : List Status) (place : ℕ) (s : Status) → slice_get ms place ≡ Some s
+    → IsSomeAnd (member_at (trees_in ms) place) P → P (tree_of s)
+member-has P ms place s e h = rw (member-tree ms place s e) at h
 
 -- the marked member and the others together
 pub encloses-waiting : (entries : List Ends) (on : ℕ → Bool) (mark : Mark) (ms : Trees) (s : Tree) (i j r : Ends)

@@ -29,7 +29,7 @@ mutual
   spread-le w (exactly r ms) = omega (arith, spread_in-le w ms)
   spread-le w (after s t) = omega (arith, spread-le w s, spread-le w t)
 
-  spread_in-le : (w : ℕ → ℕ) (ms : Trees) → spread_in w ms ≤ life_widths_in w ms + nodes_in ms
+  pub spread_in-le : (w : ℕ → ℕ) (ms : Trees) → spread_in w ms ≤ life_widths_in w ms + nodes_in ms
   spread_in-le w none = omega arith
   spread_in-le w (more s ms) = omega (arith, spread-le w s, spread_in-le w ms)
 

@@ -14,4 +14,4 @@ mod tests;
 
 pub use along::chance;
 pub use leaving::loss;
-pub use mark::chance_of_mark;
+pub use mark::{chance_of_mark, loss_of_mark};

@@ -1,21 +1,25 @@
 // The chance of the status on which a contingent insurance waits: its marked member exists, and
-// exactly so many others that it fails at its rank if it fails next.
+// exactly so many others that it fails at its rank if it fails next. And what it loses with a life.
 
-ghost use Rattle.std.specs.Prelude.{◌+◌, ◌-◌, ◌*◌, ◌^◌, ◌<◌, ◌≤◌, Some, length, pos, true};
+ghost use Rattle.std.specs.Prelude.{◌≡◌, ◌+◌, ◌-◌, ◌*◌, ◌^◌, ◌<◌, ◌≤◌, IsTrue, Some, length, pos, true};
 ghost use Rattle.halo_num.specs.Ends.{fine, IsWithin};
-ghost use Rattle.halo_status.specs.Naming.{AnyNamesLivesBelow};
-ghost use Rattle.halo_status.specs.Nodes.{nodes, nodes_in};
+ghost use Rattle.halo_status.specs.Naming.{AnyNamesLivesBelow, names_life};
+ghost use Rattle.halo_status.specs.Nodes.{IsLasting, nodes, nodes_in};
+ghost use Rattle.halo_status.specs.ReadOnce.{AreReadOnce};
 ghost use Rattle.halo_status.specs.StatusTree.{trees_in};
 ghost use Rattle.halo_status.specs.Tree.{joint};
 ghost use Rattle.halo_status.specs.ValidPay.{IsRank};
 ghost use Rattle.halo_status.specs.View.{is_on};
 ghost use Rattle.halo_model.specs.ByTree.{weight_of_count};
+ghost use Rattle.halo_model.specs.Chance.{OfMarked};
 ghost use Rattle.halo_model.specs.PartsByTree.{others_of, waiting};
 ghost use Rattle.halo_chance.specs.Cost.{CostsMembers};
 ghost use Rattle.halo_chance.specs.Enclosed.{EachIsChance, EnclosesMembers, EnclosesTree};
+ghost use Rattle.halo_chance.specs.Loss.{EnclosesLoss};
 ghost use Rattle.halo_chance.specs.Table.{passes_at};
 
 use crate::along::along;
+use crate::leaving::loss;
 use crate::table::{table_of_none, with_member};
 use halo_num::{Ival, Steps};
 use halo_status::{Mark, Members, View};
@@ -41,10 +45,54 @@ pub fn chance_of_mark<L: Ledger>(
     ensures cost { steps.new ≤ steps.old + 2 * (nodes (joint (trees_in members.now)) + 1) ^ 2 }
 {
     let member = usize::from(mark.member);
-    let place = members.len() - usize::from(mark.rank) + 1;
+    let place = place_of(members, mark);
     let others = others_at(members, member, place, lives, view, t, steps);
     let marked = along(members.at(member), lives, view, t, steps);
     marked.mul(others, steps)
+}
+
+/// What that status loses at time `t` of the view with life `a` of the marked member, where each
+/// other life i is there with the chance `lives[i]`, from 0 to 1. No life stands in the members
+/// twice, so it is what the marked member loses times the chance that of the others exactly so many
+/// exist. The entries are at return what they were.
+pub fn loss_of_mark<L: Ledger>(
+    members: &Members,
+    mark: Mark,
+    a: u8,
+    lives: &mut [Ival],
+    view: View,
+    t: u16,
+    steps: &mut Steps<L>,
+) -> Ival
+    requires member { mark.member < length members.now }
+    requires rank { IsRank mark.rank (length members.now) }
+    requires named { AnyNamesLivesBelow (length lives.old) (trees_in members.now) }
+    requires once { AreReadOnce (trees_in members.now) }
+    requires lasting { OfMarked (Some mark) (joint (trees_in members.now)) IsLasting }
+    requires life { OfMarked (Some mark) (joint (trees_in members.now))
+        (λ s. IsTrue (names_life a s)) }
+    requires chances { EachIsChance (length lives.old) lives.old }
+    ensures loss { EnclosesLoss lives.old (is_on view t) a
+        (waiting (Some mark) (joint (trees_in members.now))) result }
+    ensures within { IsWithin result (pos 0) (pos fine) }
+    ensures lives { lives.new ≡ lives.old }
+    ensures cost { steps.new ≤ steps.old + 4 * (nodes (joint (trees_in members.now)) + 1) ^ 2 }
+{
+    let member = usize::from(mark.member);
+    let place = place_of(members, mark);
+    let others = others_at(members, member, place, lives, view, t, steps);
+    let marked = loss(members.at(member), a, lives, view, t, steps);
+    marked.mul(others, steps)
+}
+
+// The place, in the table of the others, of the number of them that exist where the marked member is
+// next to fail at its rank.
+fn place_of(members: &Members, mark: Mark) -> usize
+    requires { IsRank mark.rank (length members.now) }
+    ensures value { result ≡ length members.now - mark.rank + 1 }
+    ensures within { result ≤ length members.now }
+{
+    members.len() - usize::from(mark.rank) + 1
 }
 
 // The chance that exactly so many members but one exist: one fewer than the place.

@@ -16,9 +16,9 @@ pub returns-clause-chance : goal.returns-clause-chance
 returns-clause-chance g c =
     encloses-waiting c.args.lives.now (is_on c.args.view c.args.t) c.args.mark (trees_in c.args.members.now)
     (tree_of c.at.result.now) c.along-marked.result c.others_at-others.result c.mul.result
-    (c.len.result - c.from.result + 1)
+    c.place_of-place.result
     (rw c.from-member.ensures at (member-tree c.args.members.now c.from-member.result c.at.result.now c.at.ensures))
-    (omega (arith, c.len.ensures.value, c.from.ensures, member_count-trees_in c.args.members.now))
+    (omega (arith, c.place_of-place.ensures.value, member_count-trees_in c.args.members.now))
     c.along-marked.ensures.chance (rw c.from-member.ensures at c.others_at-others.ensures.chance) c.mul.ensures.chance
 
 pub returns-clause-cost : goal.returns-clause-cost
