@@ -8,3 +8,4 @@ pub mod Present
 pub mod Others
 pub mod Agreeing
 pub mod MarkLosses
+pub mod EndLosses

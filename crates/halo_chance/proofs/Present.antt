@@ -15,6 +15,8 @@ use Rattle.halo_status.specs.declared.view.View.TheVariants.{Due}
 use Rattle.halo_model.specs.EvenTies.{without}
 use Rattle.halo_model.specs.Outcome.{joint_survivors}
 use Rattle.halo_model.specs.Basis.{Basis, accumulated}
+use Rattle.halo_model.specs.Event.{ends}
+use Rattle.halo_model.specs.Payment.{falls_on}
 use Rattle.halo_model.specs.Coefficient.{view_of}
 use Rattle.halo_model.specs.Expectation.{expected, looked_at}
 use Rattle.halo_model.specs.Chance.{asked, paid_on_leaving}
@@ -25,9 +27,11 @@ use Rattle.halo_model.specs.PartsByTree.{leavers_of, put_for, waiting}
 use Rattle.halo_model.proofs.Independent.{survivors_of-le}
 use Rattle.halo_model.proofs.Leaving.{HasYear-within}
 use Rattle.halo_model.proofs.Losses.{pay-loss-is-not-negative}
-use Rattle.halo_model.proofs.PartsByTree.{chance-on-leaving-by-tree, existing-by-tree, joint-with}
+use Rattle.halo_model.proofs.PartsByTree.{chance-on-end-by-tree, chance-on-leaving-by-tree, existing-by-tree, joint-with}
+use Rattle.halo_chance.specs.Ending.{end_loss_of}
 use Rattle.halo_chance.specs.Loss.{loss_of}
-use Rattle.halo_chance.specs.Present.{ExistingPresent, LeavingPresent, discount_to, discount_whole}
+use Rattle.halo_chance.proofs.EndLosses.{pay-end-loss-is-not-negative}
+use Rattle.halo_chance.specs.Present.{EndPresent, ExistingPresent, LeavingPresent, discount_to, discount_whole}
 
 -- a fraction of the weights along a tree, over the common denominator
 cleared : (i : Ends) (q p a num den j : ℕ) (x : ℤ) → 0 < den → pos den *ℤ x ≡ pos num *ℤ pos j
@@ -125,3 +129,35 @@ leaving-present b rule pay is once named rank T a k deferred from to marked S al
         ∙ ap pos
         (gathered (started a) leavers loss (joint_survivors T (without S a) b.lives)
         ∙ ap (λ z. leavers * loss * z) (joint-with a T S b.lives (HasYear-within a k b.lives year) alive))
+
+pub end-present : EndPresent
+end-present b rule pay is once named any_cause rank T n some deferred from to marked S i positive e =
+    rw (accumulated-to b T n (omega arith) to)
+    (cleared i (discount_to b T n) (discount_whole b T n) (accumulated b n) loss whole (joint_survivors T S b.lives) _
+    positive share e)
+  where
+    tree : Tree
+    tree = waiting pay.mark pay.body
+
+    there : ℕ → ℕ
+    there = survivors_of (λ j. n) S b.lives
+
+    started : ℕ → ℕ
+    started = started_of T S b.lives
+
+    loss : ℕ
+    loss = end_loss_of there started n tree
+
+    whole : ℕ
+    whole = whole_of started tree
+
+    falls : (l m : ℕ) → m ≤ l → pos l -ℤ pos m ≡ pos (l - m)
+    falls l m h = omega (arith, ints)
+
+    share : pos whole *ℤ expected T S b.lives (λ o. indicator (falls_on pay rank T o (ends n)))
+        ≡ pos loss *ℤ pos (joint_survivors T S b.lives)
+    share = chance-on-end-by-tree pay is once any_cause rank T n some deferred from marked S b.lives rule named
+        ∙ ap (λ z. z *ℤ pos (joint_survivors T S b.lives))
+        (falls _ _
+        (pay-end-loss-is-not-negative pay is there started
+        (survivors_of-le (λ j. n) T (λ j. omega arith) S b.lives rule) n marked))
