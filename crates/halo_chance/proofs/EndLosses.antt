@@ -1,20 +1,26 @@
 -- What the status on which an insurance waits loses with a term that ends.
-use Rattle.std.proofs.Common.{◌≡◌, ◌≢◌, ℕ, zero, suc, ◌-◌, ◌*◌, ◌≤◌, arith, refl, ap, Bool, true, false, ◌||◌, nat_eq, nat_le, nat_lt, Option, Some, None}
+use Rattle.std.proofs.Common.{◌≡◌, ◌≢◌, ℕ, zero, suc, ◌+◌, ◌-◌, ◌*◌, ◌<◌, ◌≤◌, arith, refl, Bool, true, false, ◌||◌, nat_eq, nat_le, nat_lt, List, Option, Some, None}
 use Rattle.std.specs.Prelude.{IfSome, IsSomeAnd, IsTrue}
 use Rattle.std.proofs.lemmas.Bool.Decides.{nat_tests}
 use Rattle.std.proofs.lemmas.Nat.{mul-le}
+use Rattle.halo_num.specs.Ends.{Ends}
+use Rattle.halo_num.specs.Chance.{EnclosesChance}
+use Rattle.halo_num.proofs.Chances.{chance_wider}
 use Rattle.halo_status.specs.Tree.{Tree, Trees, life, term, joint, last, at_least, exactly, after, none, more, member_at, member_count}
-use Rattle.halo_status.specs.Naming.{any_names_term, names_term}
-use Rattle.halo_status.specs.Nodes.{AtEachNodeIn, IsLasting, NeverReturns}
+use Rattle.halo_status.specs.Naming.{any_names_term, names_life, names_term}
+use Rattle.halo_status.specs.Nodes.{AtEachNodeIn, IsLasting, NeverReturns, nodes}
 use Rattle.halo_status.specs.declared.pay.Mark.{Mark}
-use Rattle.halo_model.specs.ByTree.{weight_of, weight_of_count}
+use Rattle.halo_model.specs.ByTree.{weight_of, weight_of_count, whole_of}
 use Rattle.halo_model.specs.PartsByTree.{others_of, waiting, waiting_member}
 use Rattle.halo_model.specs.Payment.{members_of}
 use Rattle.halo_model.specs.Chance.{OfMarked}
 use Rattle.halo_model.proofs.Losses.{end-loss-is-not-negative}
 use Rattle.halo_model.proofs.Marked.{ApartFrom, apart-from-marked, valid-mark}
-use Rattle.halo_chance.specs.Ending.{PayEndLossIsNotNegative}
+use Rattle.halo_chance.specs.Enclosed.{AreEnclosed, life_widths}
+use Rattle.halo_chance.specs.Ending.{EnclosesEndLoss, PayEndLossIsNotNegative, end_loss_of}
 use Rattle.halo_chance.proofs.Agreeing.{count-agrees}
+use Rattle.halo_chance.proofs.Enclosing.{whole-positive}
+use Rattle.halo_chance.proofs.MarkedPays.{member-lasting}
 
 either : (b c : Bool) → (b ≡ true → ⊥) → (c ≡ true → ⊥) → (b || c) ≡ true → ⊥
 either true c f g h = f refl
@@ -41,13 +47,6 @@ no-other-names n (more m ms) (suc place) silent h =
 other-term : (n m : ℕ) → m ≢ n → nat_lt n m ≡ nat_le n m
 other-term n m h = grind (arith, nat_tests)
 
--- what never returns in all members does not in the one at a place
-pub member-lasting : (ms : Trees) (place : ℕ) (s : Tree) → member_at ms place ≡ Some s
-    → AtEachNodeIn NeverReturns ms → IsLasting s
-member-lasting none place s e lasting = absurd (cc)
-member-lasting (more m ms) zero s e lasting = let q : m ≡ s = grind arith in rw q at lasting.0
-member-lasting (more m ms) (suc place) s e lasting = member-lasting ms place s e lasting.1
-
 members-lasting : (body : Tree) → IsLasting body → AtEachNodeIn NeverReturns (members_of body)
 members-lasting (joint ms) lasting = lasting.1
 members-lasting (life i) lasting = tt
@@ -71,7 +70,8 @@ pay-end-loss-is-not-negative pay is n d proper years named =
         → weight_of n d (λ m. nat_lt years m) (waiting mark pay.body)
         ≤ weight_of n d (λ m. nat_le years m) (waiting mark pay.body)
     go None apart h = end-loss-is-not-negative n d proper years pay.body lasting
-    go (Some mark) apart h = found (member_at ms mark.member) refl
+    go (Some mark) apart h =
+        found (member_at ms mark.member) (member-lasting ms mark.member names h (members-lasting pay.body lasting))
       where
         ms : Trees
         ms = members_of pay.body
@@ -84,15 +84,12 @@ pay-end-loss-is-not-negative pay is n d proper years named =
             no-other-names years ms mark.member
             (λ q t other at e. let (s, own, shares) = apart q t other at in shares.terms years own e)
 
-        found : (at : Option Tree) → member_at (members_of pay.body) mark.member ≡ at
+        found : (at : Option Tree) → IsSomeAnd at IsLasting
             → weight_of n d (λ m. nat_lt years m) (waiting_member mark (members_of pay.body) at)
             ≤ weight_of n d (λ m. nat_le years m) (waiting_member mark (members_of pay.body) at)
-        found None e = omega arith
-        found (Some s) e =
-            rw same-count
-            (mul-le _ _ _ _
-            (end-loss-is-not-negative n d proper years s
-            (member-lasting ms mark.member s e (members-lasting pay.body lasting))) (omega arith))
+        found None each = absurd each
+        found (Some s) each =
+            rw same-count (mul-le _ _ _ _ (end-loss-is-not-negative n d proper years s each) (omega arith))
           where
             same-count : weight_of_count n d (λ m. nat_lt years m)
                 (λ count. nat_eq count (member_count (members_of pay.body) - mark.rank)) rest
@@ -101,3 +98,19 @@ pay-end-loss-is-not-negative pay is n d proper years named =
             same-count =
                 count-agrees n n d (λ m. nat_lt years m) (λ m. nat_le years m) _ rest
                 (λ i h. refl, λ k h. other-term years k (λ q. silent (rw q at h)))
+
+-- the loss, from the two chances at the end of the term
+pub end-loss-enclosed : (entries : List Ends) (years : ℕ) (s : Tree) (from to r : Ends)
+    → ((n d w : ℕ → ℕ) → AreEnclosed n d w entries (λ j. names_life j s)
+    → EnclosesChance (weight_of n d (λ m. nat_le years m) s) (whole_of d s) (life_widths w s + nodes s) from)
+    → ((n d w : ℕ → ℕ) → AreEnclosed n d w entries (λ j. names_life j s)
+    → EnclosesChance (weight_of n d (λ m. nat_lt years m) s) (whole_of d s) (life_widths w s + nodes s) to)
+    → ((n m d v w : ℕ) → 0 < d → m ≤ n → EnclosesChance n d v from → EnclosesChance m d w to
+    → EnclosesChance (n - m) d (v + w) r)
+    → EnclosesEndLoss entries years s r
+unfolding EnclosesEndLoss
+end-loss-enclosed entries years s from to r along_from along_to fall n d w e falls =
+    let width = life_widths w s + nodes s in
+    chance_wider (end_loss_of n d years s) (whole_of d s) (width + width) (2 * width) r (omega arith)
+    (fall (weight_of n d (λ m. nat_le years m) s) (weight_of n d (λ m. nat_lt years m) s) (whole_of d s) width width
+    (whole-positive n d w entries s e) falls (along_from n d w e) (along_to n d w e))

@@ -9,3 +9,4 @@ pub mod Others
 pub mod Agreeing
 pub mod MarkLosses
 pub mod EndLosses
+pub mod MarkedPays

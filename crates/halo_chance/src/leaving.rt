@@ -46,7 +46,7 @@ pub fn loss<L: Ledger>(
 }
 
 // The fall of a chance to one that is not greater.
-fn fall(from: Ival, to: Ival) -> Ival
+pub(crate) fn fall(from: Ival, to: Ival) -> Ival
     requires from { IsWithin from (pos 0) (pos fine) }
     requires to { IsWithin to (pos 0) (pos fine) }
     ensures chance { (n m d v w : ℕ) → 0 < d → m ≤ n →

@@ -8,6 +8,7 @@ mod along;
 pub mod laws;
 mod leaving;
 mod mark;
+mod pay;
 mod table;
 #[cfg(test)]
 mod tests;
@@ -15,3 +16,4 @@ mod tests;
 pub use along::chance;
 pub use leaving::loss;
 pub use mark::{chance_of_mark, loss_of_mark};
+pub use pay::{chance_of_pay, end_loss, pay_loss};
