@@ -1,5 +1,5 @@
 -- What a status loses with a term that ends: its chance where the terms of at least so many years
--- are on, less its chance where only longer terms are.
+-- are on, less its chance where only the longer ones are.
 use Rattle.std.specs.Prelude.{ℕ, ◌+◌, ◌-◌, ◌*◌, ◌≤◌, IsTrue, List, nat_le, nat_lt}
 use Rattle.halo_num.specs.Ends.{Ends}
 use Rattle.halo_num.specs.Chance.{EnclosesChance}

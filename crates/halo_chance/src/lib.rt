@@ -1,4 +1,5 @@
-//! The chance that a status of independent lives exists, along its tree.
+//! The chance that a status of independent lives exists, along its tree, and what it loses with a
+//! life or with a term that ends.
 //!
 //! A status in which no life stands twice needs no sums over sets of lives: its members are
 //! independent of each other, so their chances multiply.

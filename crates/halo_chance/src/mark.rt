@@ -85,7 +85,7 @@ pub fn loss_of_mark<L: Ledger>(
     marked.mul(others, steps)
 }
 
-// The place, in the table of the others, of the number of them that exist where the marked member is
+// The place in the table of the others of the number of them that exist where the marked member is
 // next to fail at its rank.
 fn place_of(members: &Members, mark: Mark) -> usize
     requires { IsRank mark.rank (length members.now) }

@@ -56,8 +56,9 @@ pub fn chance_of_pay<L: Ledger>(
 }
 
 /// What the status on which a pay waits loses at time `t` of the view with life `a`, where each
-/// other life i is there with the chance `lives[i]`, from 0 to 1. Where the pay has a mark, life `a`
-/// stands in the marked member. The entries are at return what they were.
+/// other life i is there with the chance `lives[i]`, from 0 to 1: its chance with that life there
+/// less its chance with that life not there. Where the pay has a mark, life `a` has to stand in the
+/// marked member. The entries are at return what they were.
 pub fn pay_loss<L: Ledger>(
     pay: &Pay,
     a: u8,
@@ -84,14 +85,15 @@ pub fn pay_loss<L: Ledger>(
     }
 }
 
-/// What that status loses with the terms of `n` years at their end: its chance at time n, where a
-/// term of n years is still on, less its chance then where it is not. The entries are the chances
-/// that the lives are there at n, from 0 to 1.
+/// What the status on which a pay waits loses with the terms of `n` years at their end, where life i
+/// is there at time n with the chance `lives[i]`, from 0 to 1: its chance then where those terms are
+/// still on less its chance where they are not.
 pub fn end_loss<L: Ledger>(pay: &Pay, lives: &[Ival], n: u16, steps: &mut Steps<L>) -> Ival
     requires valid { IsValidPay (pay_of pay.now) }
     requires named { NamesLivesBelow (length lives.now) (tree_of pay.now.body) }
     requires chances { EachIsChance (length lives.now) lives.now }
-    ensures loss { EnclosesEndLoss lives.now n (waiting pay.now.mark (tree_of pay.now.body)) result }
+    ensures loss { EnclosesEndLoss lives.now n
+        (waiting pay.now.mark (tree_of pay.now.body)) result }
     ensures within { IsWithin result (pos 0) (pos fine) }
     ensures cost { steps.new ≤ steps.old + 4 * (nodes (tree_of pay.now.body) + 1) ^ 2 }
 {

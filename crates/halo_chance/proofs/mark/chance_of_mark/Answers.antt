@@ -1,4 +1,4 @@
-use Rattle.std.proofs.Common.{◌-◌, ◌+◌, arith, length}
+use Rattle.std.proofs.Common.{arith, length}
 use Rattle.halo_status.specs.StatusTree.{tree_of, trees_in}
 use Rattle.halo_status.specs.View.{is_on}
 use Rattle.halo_status.proofs.Lists.{member_count-trees_in}

@@ -1,28 +1,23 @@
 -- A pay with a mark waits on its list, and one without on its body.
-use Rattle.std.proofs.Common.{◌≡◌, arith, Some}
+use Rattle.std.proofs.Common.{Some}
 use Rattle.halo_status.specs.Pay.{pay_of}
-use Rattle.halo_status.specs.StatusTree.{tree_of, trees_in}
+use Rattle.halo_status.specs.StatusTree.{trees_in}
 use Rattle.halo_status.specs.Tree.{joint}
 use Rattle.halo_status.specs.View.{is_on}
-use Rattle.halo_status.proofs.Lists.{member_count-trees_in}
 use Rattle.halo_model.specs.PartsByTree.{waiting}
-use Rattle.halo_chance.proofs.MarkedPays.{mark-on-list}
+use Rattle.halo_chance.proofs.MarkedPays.{mark-ranked, mark-within}
 use Rattle.halo_chance.proofs.Whole.{along-whole}
 use Rattle.halo_chance.proofs.pay.chance_of_pay.Goals as goal
 
 pub chance_of_mark-requires-clause-member : goal.chance_of_mark-requires-clause-member
 chance_of_mark-requires-clause-member g c =
-    let list = c.in-Some.list in
-    let can = mark-on-list (pay_of c.args.pay.now) list.mark (trees_in list.members.now) c.requires.valid
-    c.in-Some.ensures.some.0 c.in-Some.ensures.some.1 in
-    omega (arith, can.member, member_count-trees_in list.members.now)
+    mark-within (pay_of c.args.pay.now) c.in-Some.list.mark c.in-Some.list.members.now c.requires.valid
+    c.in-Some.ensures.some.0 c.in-Some.ensures.some.1
 
 pub chance_of_mark-requires-clause-rank : goal.chance_of_mark-requires-clause-rank
 chance_of_mark-requires-clause-rank g c =
-    let list = c.in-Some.list in
-    let can = mark-on-list (pay_of c.args.pay.now) list.mark (trees_in list.members.now) c.requires.valid
-    c.in-Some.ensures.some.0 c.in-Some.ensures.some.1 in
-    rw (member_count-trees_in list.members.now) at can.rank
+    mark-ranked (pay_of c.args.pay.now) c.in-Some.list.mark c.in-Some.list.members.now c.requires.valid
+    c.in-Some.ensures.some.0 c.in-Some.ensures.some.1
 
 pub chance_of_mark-requires-clause-named : goal.chance_of_mark-requires-clause-named
 chance_of_mark-requires-clause-named g c = rw c.in-Some.ensures.some.1 at c.requires.named

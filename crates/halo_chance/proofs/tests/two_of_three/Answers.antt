@@ -1,5 +1,5 @@
 -- The lives are 0, 1 and 2.
-use Rattle.std.proofs.Common.{ℕ, ◌<◌, arith, rules, false, ◌||◌, nat_eq}
+use Rattle.std.proofs.Common.{ℕ, ◌<◌, arith, false, ◌||◌, nat_eq}
 use Rattle.std.specs.Prelude.{IsTrue}
 use Rattle.std.proofs.lemmas.Bool.Decides.{nat_tests}
 use Rattle.halo_status.proofs.Shapes.{tree_of-AtLeast, tree_of-Life}
