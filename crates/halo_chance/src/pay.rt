@@ -85,9 +85,9 @@ pub fn pay_loss<L: Ledger>(
     }
 }
 
-/// What the status on which a pay waits loses with the terms of `n` years at their end, where life i
-/// is there at time n with the chance `lives[i]`, from 0 to 1: its chance then where those terms are
-/// still on less its chance where they are not.
+/// What the status on which a pay waits loses with the terms of `n` years at their end, where life
+/// i is there at time n with the chance `lives[i]`, from 0 to 1: its chance then where those terms
+/// are still on less its chance where they are not.
 pub fn end_loss<L: Ledger>(pay: &Pay, lives: &[Ival], n: u16, steps: &mut Steps<L>) -> Ival
     requires valid { IsValidPay (pay_of pay.now) }
     requires named { NamesLivesBelow (length lives.now) (tree_of pay.now.body) }
