@@ -1,0 +1,11 @@
+pub mod Counting
+pub mod OnePaid
+pub mod Payments
+pub mod Survivals
+pub mod Value
+pub mod Insured
+pub mod InsuredWhole
+pub mod InsuredYear
+pub mod InsuredYears
+pub mod Whole
+pub mod OneYearMore

@@ -1,0 +1,15 @@
+use Rattle.std.proofs.Common.{◌+◌, ◌-◌, ◌*◌, ◌^◌, ◌≤◌}
+use Rattle.halo_status.specs.Nodes.{nodes}
+use Rattle.halo_status.specs.Pay.{pay_of}
+use Rattle.halo_along.specs.Years.{EnclosesYears, IsDiscount}
+use Rattle.halo_along.proofs.years.value_of_years.Given as goal
+
+abbrev pub invariant-loop-year : goal.invariant-loop-year
+invariant-loop-year g l = record {
+  from : l.along.group.now.start ≤ l.year;
+  few : l.year - l.along.group.now.start ≤ l.along.horizon - l.along.group.now.start;
+  discount : IsDiscount l.along l.year l.discount;
+  total : EnclosesYears l.along (l.year - l.along.group.now.start) l.total;
+  cost : l.steps ≤ l.initial.steps
+      + (l.year - l.along.group.now.start) * (2 * (nodes (pay_of l.along.pay.now).body + 1) ^ 2 + 2);
+}

@@ -1,0 +1,69 @@
+-- What is valued along the tree of its body: a pay of amount 1 on a basis, with lives that have
+-- survivors.
+use Rattle.std.specs.Prelude.{◌≡◌, None, ℕ, ◌+◌, ◌*◌, ◌^◌, ◌<◌, ◌≤◌, true}
+use Rattle.halo_sums.specs.Masks.{has_bit}
+use Rattle.halo_num.specs.Ends.{Ends}
+use Rattle.halo_interest.specs.declared.powers.TheConstants.{LAST_TIME}
+use Rattle.halo_status.specs.Exists.{exists}
+use Rattle.halo_status.specs.Naming.{NamesLivesBelow}
+use Rattle.halo_status.specs.Nodes.{nodes}
+use Rattle.halo_status.specs.Pay.{pay_of}
+use Rattle.halo_status.specs.ReadOnce.{IsReadOnce}
+use Rattle.halo_status.specs.ValidPay.{IsValidPay}
+use Rattle.halo_status.specs.View.{is_on}
+use Rattle.halo_status.specs.declared.pay.Kind.TheVariants.{Due, Insurance}
+use Rattle.halo_status.specs.declared.pay.Pay.{Pay}
+use Rattle.halo_status.specs.declared.pay.Vary.TheVariants.{Level}
+use Rattle.halo_status.specs.declared.view.View.TheVariants.{Due as DueView}
+use Rattle.halo_contract.specs.declared.ties.Ties.{Ties}
+use Rattle.halo_model.specs.Basis.{Basis}
+use Rattle.halo_model.specs.ContractBasis.{basis_of}
+use Rattle.halo_model.specs.Counts.{lives_named}
+use Rattle.halo_model.specs.Enclosed.{EnclosesOne}
+use Rattle.halo_model.specs.FromTables.{lives_of}
+use Rattle.halo_model.specs.Horizon.{horizon}
+use Rattle.halo_life.specs.PlainGroup.{PlainGroup, survivors_in}
+use Rattle.halo_along.specs.declared.along.Along.{Along}
+
+-- a valid pay whose body is read once, on the lives of a group, with its horizon on them
+pub record IsAlong {n : ℕ} (along : Along n) : Type 0 where
+  pub valid : IsValidPay (pay_of along.pay.now)
+  pub once : IsReadOnce (pay_of along.pay.now).body
+  pub lives : NamesLivesBelow n (pay_of along.pay.now).body
+  pub horizon_is : along.horizon
+      ≡ horizon (lives_of along.group.now.file along.group.now.lives) (pay_of along.pay.now).body
+  pub horizon_in : along.horizon ≤ LAST_TIME
+
+-- its lives and its interest, with a rule for ties
+abbrev pub basis_of_along : {n : ℕ} → Along n → Ties → Basis
+basis_of_along along ties =
+    basis_of along.group.now.file along.interest.now along.group.now.lives ties
+
+-- the lives of a set that there are of n have survivors at time t: each has a row at its age then
+abbrev pub HaveSurvivorsAt : ℕ → PlainGroup → ℕ → ℕ → Type 0
+HaveSurvivorsAt n group t alive =
+    (i : ℕ) → i < n → has_bit alive i ≡ true → 0 < survivors_in group t i
+
+-- i encloses the value at time t of the pay, with amount 1, where the lives of a set are alive, by
+-- either rule for ties
+unfoldable pub EnclosesAlong : {n : ℕ} → Along n → ℕ → ℕ → Ends → Type 0
+EnclosesAlong along t alive i = (ties : Ties) →
+    EnclosesOne (basis_of_along along ties) (pay_of along.pay.now) t (has_bit alive) i
+
+-- an annuity-due, level and without deferral, pays at time t: its body exists then with the lives
+-- of a set alive
+pub record PaysAtOnce {n : ℕ} (along : Along n) (t alive : ℕ) : Type 0 where
+  pub due : along.pay.now.kind ≡ Due
+  pub level : along.pay.now.vary ≡ Level
+  pub at_once : along.pay.now.defer ≡ 0
+  pub exists_then : exists (has_bit alive) (is_on DueView t) (pay_of along.pay.now).body ≡ true
+
+-- the pay falls due by its body alone: it is an annuity, or an insurance without mark and causes
+abbrev pub PaysByItsBody : Pay → Type 0
+PaysByItsBody pay = pay.kind ≡ Insurance → (pay.mark ≡ None) × (pay.causes ≡ None)
+
+-- the most products of a valuation along the tree
+abbrev pub products_along : {n : ℕ} → Along n → ℕ
+products_along {n} along =
+    let body = (pay_of along.pay.now).body in
+    16 * (along.horizon + 1) * (lives_named n body + 1) * (nodes body + 1) ^ 2

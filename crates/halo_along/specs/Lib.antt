@@ -1,0 +1,4 @@
+pub mod Along
+pub mod Insured
+pub mod Lives
+pub mod Years

@@ -1,0 +1,27 @@
+//! Annuities of pays whose body is read once, valued along the tree of the body.
+//!
+//! A payment is worth the discount factor of its years times the chance along the tree that the
+//! body exists then. The value at a time is the sum over the payments from there to the horizon:
+//! no sums over sets of lives are needed.
+//!
+//! An insurance that pays whenever its body fails pays for the fall of its existence from one year
+//! to the next, so its value is a sum over the years in the same way.
+#![tactic(auto)]
+
+mod along;
+mod annuity;
+mod by_kind;
+mod insurance;
+#[cfg(test)]
+mod insured_tests;
+mod insured_years;
+mod lives;
+mod payment;
+#[cfg(test)]
+mod tests;
+mod years;
+
+pub use along::Along;
+pub use annuity::annuity_along;
+pub use by_kind::value_along;
+pub use insurance::insurance_along;
