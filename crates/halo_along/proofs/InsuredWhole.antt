@@ -18,7 +18,6 @@ use Rattle.halo_table.specs.declared.lives.Life.{Life}
 use Rattle.halo_contract.specs.declared.ties.Ties.{Ties}
 use Rattle.halo_contract.specs.declared.ties.Ties.TheVariants.{Declared, Even}
 use Rattle.halo_model.specs.Basis.{Basis, accumulated, taken}
-use Rattle.halo_model.specs.Chance.{IsValidInsurance}
 use Rattle.halo_model.specs.Counts.{Measures, greatest_factor, measures_of, most_worth, order_share, width_count}
 use Rattle.halo_model.specs.Enclosed.{of_one}
 use Rattle.halo_model.specs.FromTables.{lives_of}
@@ -38,6 +37,7 @@ use Rattle.halo_along.specs.Years.{present_whole}
 use Rattle.halo_along.specs.declared.along.Along.{Along}
 use Rattle.halo_along.proofs.Counting.{greatest-some, some-nodes}
 use Rattle.halo_along.proofs.Insured.{insurance-by-years-to-horizon}
+use Rattle.halo_along.proofs.OneLeaving.{unit-valid}
 
 -- the tables of lives that have rows end by time 200: no age is above 150
 table-ends : (file : TableFile) → IsSound file → (x : Life) → HasRow file x.table x.age
@@ -55,13 +55,13 @@ lives-end file sound (x ∷ lives) rows = (
   lives-end file sound lives (All-tail (λ life. HasRow file life.table life.age) x lives rows),
 )
 
-group-ends : (n : ℕ) (g : PlainGroup) → IsGroup n g → EndBy 200 (lives_of g.file g.lives)
+pub group-ends : (n : ℕ) (g : PlainGroup) → IsGroup n g → EndBy 200 (lives_of g.file g.lives)
 group-ends n g is = lives-end g.file is.sound g.lives
     (All-from_get_or (λ life. HasRow g.file life.table life.age) g.lives (record { table = 0; age = 0 })
     (λ i h. is.rows i (omega (arith, h, is.count))))
 
 -- the orders of the lives make a value no narrower
-share-some : (ties : Ties) (kind : Kind) (named : ℕ) → 1 ≤ order_share ties kind named
+pub share-some : (ties : Ties) (kind : Kind) (named : ℕ) → 1 ≤ order_share ties kind named
 share-some Even Insurance named = omega (arith, pow_pos (named + 1))
 share-some Even Due named = omega arith
 share-some Even Immediate named = omega arith
@@ -121,13 +121,12 @@ insured-products-few years horizon named m few =
     mul-le-mul_right ((horizon + 1) * square) (omega arith) in
     omega (arith, a, b)
 
-most-is : (kind : Kind) → kind ≡ Insurance → (m : Measures) → most_worth kind m ≡ m.factor
+pub most-is : (kind : Kind) → kind ≡ Insurance → (m : Measures) → most_worth kind m ≡ m.factor
 unfolding most_worth
 most-is kind e m = rw e refl
 
 module _ {n : ℕ} (along : Along n) (is : IsAlong along) (group : IsGroup n along.group.now)
-    (kind : along.pay.now.kind ≡ Insurance) (plain : along.pay.now.mark ≡ None)
-    (any_cause : along.pay.now.causes ≡ None) (ties : Ties) where
+    (kind : along.pay.now.kind ≡ Insurance) (ties : Ties) where
   abbrev b : Basis
   b = basis_of_along along ties
 
@@ -142,42 +141,6 @@ module _ {n : ℕ} (along : Along n) (is : IsAlong along) (group : IsGroup n alo
 
   lives : AreLives b.lives
   lives = group-lives n along.group.now group
-
-  -- with amount 1 it is a valid insurance as well
-  of-one-valid : IsValidInsurance (of_one pay)
-  of-one-valid = record {
-    valid = record {
-      amount_from = omega arith;
-      amount_in = omega arith;
-      defer_in = is.valid.defer_in;
-      vary = is.valid.vary;
-      lengths = is.valid.lengths;
-      lists = is.valid.lists;
-      few_nodes = is.valid.few_nodes;
-      ranks = is.valid.ranks;
-      lasting = is.valid.lasting;
-      causes = is.valid.causes;
-      mark = is.valid.mark;
-    };
-    kind = kind;
-  }
-
-  -- what the years to the horizon pay is what the insurance is worth
-  pub insured-encloses : (i : Ends) → EnclosesInsuredYears along (along.horizon - start) i
-      → Encloses i (pos (numerator b (of_one pay) start living)) (denominator b start living)
-  unfolding EnclosesInsuredYears denominator
-  insured-encloses i years =
-      encloses_at i (insured_value_of_years b (of_one pay) start living (along.horizon - start))
-      (pos (numerator b (of_one pay) start living)) (present_whole b start living)
-      (length (taken b) * (joint_survivors start living b.lives * accumulated b start)) (length (taken b))
-      (years ties).encloses
-      (insurance-by-years-to-horizon b lives (group-ends n along.group.now group) (of_one pay) kind plain any_cause
-      (is.valid.lasting kind) is.valid.lists (ranks-ask pay.body is.valid.ranks) start living
-      group.time (omega (arith, is.horizon_is, is.horizon_in))
-      ∙ ap (λ (h : ℕ). pos (length (taken b)) *ℤ insured_value_of_years b (of_one pay) start living (h - start))
-      (sym is.horizon_is)
-      ∙ mul_comm (pos (length (taken b))) _)
-      (omega arith)
 
   -- no wider than its count
   pub insured-narrow : (i : Ends) → EnclosesInsuredYears along (along.horizon - start) i
@@ -195,8 +158,26 @@ module _ {n : ℕ} (along : Along n) (is : IsAlong along) (group : IsGroup n alo
       let bound : 1 * greatest_factor along.pay.now.vary (horizon b.lives pay.body) ≡ most =
       omega (arith, e, ap (greatest_factor along.pay.now.vary) is.horizon_is) in
       rw (← bound)
-      (insurance-is-bounded b lives (group-ends n along.group.now group) (of_one pay) of-one-valid start living)
+      (insurance-is-bounded b lives (group-ends n along.group.now group) (of_one pay) (unit-valid pay is.valid kind) start living)
 
   pub most-of-insurance : most_worth pay.kind (measures_of b pay) ≡ greatest_factor along.pay.now.vary along.horizon
   most-of-insurance = most-is pay.kind kind (measures_of b pay)
       ∙ ap (greatest_factor along.pay.now.vary) (sym is.horizon_is)
+
+  -- what the years to the horizon pay is what the insurance is worth
+  pub insured-encloses : along.pay.now.mark ≡ None → along.pay.now.causes ≡ None
+      → (i : Ends) → EnclosesInsuredYears along (along.horizon - start) i
+      → Encloses i (pos (numerator b (of_one pay) start living)) (denominator b start living)
+  unfolding EnclosesInsuredYears denominator
+  insured-encloses plain any_cause i years =
+      encloses_at i (insured_value_of_years b (of_one pay) start living (along.horizon - start))
+      (pos (numerator b (of_one pay) start living)) (present_whole b start living)
+      (length (taken b) * (joint_survivors start living b.lives * accumulated b start)) (length (taken b))
+      (years ties).encloses
+      (insurance-by-years-to-horizon b lives (group-ends n along.group.now group) (of_one pay) kind plain any_cause
+      (is.valid.lasting kind) is.valid.lists (ranks-ask pay.body is.valid.ranks) start living
+      group.time (omega (arith, is.horizon_is, is.horizon_in))
+      ∙ ap (λ (h : ℕ). pos (length (taken b)) *ℤ insured_value_of_years b (of_one pay) start living (h - start))
+      (sym is.horizon_is)
+      ∙ mul_comm (pos (length (taken b))) _)
+      (omega arith)

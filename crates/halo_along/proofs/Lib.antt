@@ -9,3 +9,15 @@ pub mod InsuredYear
 pub mod InsuredYears
 pub mod Whole
 pub mod OneYearMore
+pub mod LookedAt
+pub mod OneLeaving
+pub mod Waits
+pub mod PresentSums
+pub mod LeavingYears
+pub mod OneEnd
+pub mod EndYears
+pub mod Members
+pub mod ByParts
+pub mod Contingents
+pub mod NamedLives
+pub mod PartsAlong

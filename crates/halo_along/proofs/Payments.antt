@@ -10,10 +10,11 @@ use Rattle.halo_num.specs.Enclosure.{Encloses}
 use Rattle.halo_status.specs.Pay.{pay_of}
 use Rattle.halo_contract.specs.declared.ties.Ties.TheVariants.{Declared}
 use Rattle.halo_model.specs.Backward.{paid_at}
+use Rattle.halo_model.specs.Basis.{Basis}
 use Rattle.halo_model.specs.Counts.{greatest_factor}
 use Rattle.halo_model.specs.Enclosed.{of_one}
 use Rattle.halo_along.specs.Along.{basis_of_along}
-use Rattle.halo_along.specs.Years.{EnclosesOnePaid, EnclosesPayment, present_value_of_one}
+use Rattle.halo_along.specs.Years.{EnclosesOnePaid, EnclosesPayment, EnclosesPresent, present_value_of_one}
 use Rattle.halo_along.specs.declared.along.Along.{Along}
 use Rattle.halo_along.proofs.Counting.{paid-within}
 
@@ -49,49 +50,62 @@ part-within i r paid few order is low high =
     either P true x y a c = a
     either P false x y a c = c
 
-module _ {n : ℕ} (along : Along n) (t : ℕ) (one : Ends) (is : EnclosesOnePaid along t one)
+-- a payment times the value of 1 encloses the value of the payment, wider by its size
+module _ (b : Basis) (T : ℕ) (S : ℕ → Bool) (value : ℤ) (w : ℕ) (one : Ends) (is : EnclosesPresent b T S value w 1 one)
     (order : one.lo ≤ℤ one.hi) (written : ℤ) (paid : ℕ) (is_paid : written ≡ pos paid) (few : paid ≤ 201) where
   abbrev times : ℤ
   times = to_z w64 (of_z w64 written)
 
+  part : IsWithin one (pos 0) (pos fine)
+  part = record { low = is.within.low; high = omega (arith, ints, is.within.high) }
+
   -- the ends of the value of 1 have room for its payment
-  pub low-sized : IsSized (one.lo *ℤ times) (10 ^ 36)
-  unfolding EnclosesOnePaid
-  low-sized = let within = (is Declared).within in
-      rw (payment-is written paid few is_paid)
-      (part-sized one.lo paid within.low (omega (arith, ints, order, within.high)) few)
+  pub low-has-room : IsSized (one.lo *ℤ times) (10 ^ 36)
+  low-has-room = rw (payment-is written paid few is_paid)
+      (part-sized one.lo paid part.low (omega (arith, ints, order, part.high)) few)
 
-  pub high-sized : IsSized (one.hi *ℤ times) (10 ^ 36)
-  unfolding EnclosesOnePaid
-  high-sized = let within = (is Declared).within in
-      rw (payment-is written paid few is_paid)
-      (part-sized one.hi paid (omega (arith, ints, order, within.low)) (omega (arith, ints, within.high)) few)
+  pub high-has-room : IsSized (one.hi *ℤ times) (10 ^ 36)
+  high-has-room = rw (payment-is written paid few is_paid)
+      (part-sized one.hi paid (omega (arith, ints, order, part.low)) part.high few)
 
-  -- and its multiple encloses the value of the payment
-  pub payment-encloses : (r : Ends) → t ≤ along.horizon
-      → paid ≡ paid_at (of_one (pay_of along.pay.now)) along.group.now.start t
+  pub present-times : (r : Ends) (factor : ℕ) → paid ≤ factor
       → r.lo ≡ int_min (one.lo *ℤ times) (one.hi *ℤ times) → r.hi ≡ int_max (one.lo *ℤ times) (one.hi *ℤ times)
       → ((x : ℤ) (d : ℕ) → Encloses one x d → Encloses r (x *ℤ times) d)
       → ((v m : ℕ) → HasWidth one v → IsSized times m → HasWidth r (v * m))
-      → EnclosesPayment along t r
-  unfolding EnclosesOnePaid EnclosesPayment
-  payment-encloses r to value low high encloses narrow ties =
+      → EnclosesPresent b T S (value *ℤ pos paid) (w * factor) 201 r
+  present-times r factor within low high encloses narrow =
       let e = payment-is written paid few is_paid in
-      let factor = greatest_factor along.pay.now.vary along.horizon in
-      let within : paid ≤ factor = omega (
-        arith,
-        value,
-        paid-within (of_one (pay_of along.pay.now)) refl along.group.now.start t along.horizon to,
-      ) in
-      let o = is ties in
-      let part : IsWithin one (pos 0) (pos fine) =
-      record { low = o.within.low; high = omega (arith, ints, o.within.high) } in
       record {
-        encloses = rw (← value, ← e) (encloses _ _ o.encloses);
-        narrow = narrow _ factor o.narrow
+        encloses = rw (← e) (encloses _ _ is.encloses);
+        narrow = narrow w factor is.narrow
             (rw e (record { low = omega (arith, ints); high = omega (arith, ints, within) }));
         within = part-within one r paid few order part (rw e at low) (rw e at high);
       }
+
+module _ {n : ℕ} (along : Along n) (t : ℕ) (one : Ends) (is : EnclosesOnePaid along t one)
+    (order : one.lo ≤ℤ one.hi) (written : ℤ) (paid : ℕ) (is_paid : written ≡ pos paid) (few : paid ≤ 201) where
+  pub low-sized : IsSized (one.lo *ℤ to_z w64 (of_z w64 written)) (10 ^ 36)
+  unfolding EnclosesOnePaid
+  low-sized = low-has-room _ _ _ _ _ one (is Declared) order written paid is_paid few
+
+  pub high-sized : IsSized (one.hi *ℤ to_z w64 (of_z w64 written)) (10 ^ 36)
+  unfolding EnclosesOnePaid
+  high-sized = high-has-room _ _ _ _ _ one (is Declared) order written paid is_paid few
+
+  -- so of what an annuity pays at a time
+  pub payment-encloses : (r : Ends) → t ≤ along.horizon
+      → paid ≡ paid_at (of_one (pay_of along.pay.now)) along.group.now.start t
+      → (let times = to_z w64 (of_z w64 written) in
+      r.lo ≡ int_min (one.lo *ℤ times) (one.hi *ℤ times) → r.hi ≡ int_max (one.lo *ℤ times) (one.hi *ℤ times)
+      → ((x : ℤ) (d : ℕ) → Encloses one x d → Encloses r (x *ℤ times) d)
+      → ((v m : ℕ) → HasWidth one v → IsSized times m → HasWidth r (v * m))
+      → EnclosesPayment along t r)
+  unfolding EnclosesOnePaid EnclosesPayment
+  payment-encloses r to value low high encloses narrow ties =
+      rw (← value) (present-times _ _ _ _ _ one (is ties) order written paid is_paid few r
+      (greatest_factor along.pay.now.vary along.horizon)
+      (omega (arith, value, paid-within (of_one (pay_of along.pay.now)) refl along.group.now.start t along.horizon to))
+      low high encloses narrow)
 
 -- where nothing is paid the value is 0
 pub nothing-paid : {n : ℕ} (along : Along n) (t paid : ℕ) (r : Ends)

@@ -59,7 +59,7 @@ first-few Due = omega arith
 first-few Immediate = omega arith
 
 -- a payment where it is allowed
-where-allowed : (may : Bool) (p d : ℕ) (x : ℤ)
+pub where-allowed : (may : Bool) (p d : ℕ) (x : ℤ)
     → cond may (pos (p * d) *ℤ x) (pos 0) ≡ (pos d *ℤ x) *ℤ pos (cond may p 0)
 where-allowed true p d x =
     ap (λ z. z *ℤ x) (pos_mul p d) ∙ mul_assoc (pos p) (pos d) x ∙ mul_comm (pos p) (pos d *ℤ x)

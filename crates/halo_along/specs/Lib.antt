@@ -1,4 +1,7 @@
 pub mod Along
+pub mod Contingent
 pub mod Insured
+pub mod Leavings
 pub mod Lives
+pub mod Parts
 pub mod Years

@@ -76,7 +76,7 @@ fn value_of_year<const N: usize, L: Ledger>(
 }
 
 // What an insurance of 1 pays for year `k` if its body fails then: nothing before the deferral.
-fn insured_in(pay: &Pay, k: u16) -> u16
+pub(crate) fn insured_in(pay: &Pay, k: u16) -> u16
     requires time { k ≤ LAST_TIME }
     requires vary { HasValidVary pay.now.vary }
     ensures value { result ≡ insured_in (of_one (pay_of pay.now)) k }

@@ -5,17 +5,26 @@
 //! no sums over sets of lives are needed.
 //!
 //! An insurance that pays whenever its body fails pays for the fall of its existence from one year
-//! to the next, so its value is a sum over the years in the same way.
+//! to the next, so its value is a sum over the years in the same way. Any other insurance, with a
+//! mark or with causes, pays on the leaving of each life and on the ends of its terms what the
+//! status on which it waits loses with them.
 #![tactic(auto)]
 
 mod along;
 mod annuity;
 mod by_kind;
+mod contingent;
+#[cfg(test)]
+mod contingent_tests;
+mod ending;
+mod failing;
 mod insurance;
 #[cfg(test)]
 mod insured_tests;
 mod insured_years;
+mod leaving;
 mod lives;
+mod parts;
 mod payment;
 #[cfg(test)]
 mod tests;
@@ -24,4 +33,6 @@ mod years;
 pub use along::Along;
 pub use annuity::annuity_along;
 pub use by_kind::value_along;
+pub use contingent::contingent_along;
 pub use insurance::insurance_along;
+pub use parts::{on_life_along, on_term_along};

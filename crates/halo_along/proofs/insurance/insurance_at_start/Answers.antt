@@ -19,9 +19,9 @@ between-requires-clause-meets_most g c =
     let most = c.from.ensures ∙ c.greatest_factor-most.ensures.value in
     meets-above c.value_of_years-total.result _ _ c.from.result
     (some-denominator along group c.fractions-fractions.ensures.interest)
-    (insured-encloses along is.along group is.insurance is.unmarked is.any_cause Declared _
+    (insured-encloses along is.along group is.insurance Declared is.unmarked is.any_cause _
     c.value_of_years-total.ensures.years)
-    (insured-above along is.along group is.insurance is.unmarked is.any_cause Declared c.from.result most)
+    (insured-above along is.along group is.insurance Declared c.from.result most)
 
 pub between-requires-clause-meets_least : goal.between-requires-clause-meets_least
 between-requires-clause-meets_least g c =
@@ -30,7 +30,7 @@ between-requires-clause-meets_least g c =
     let group = c.start-start.ensures.group in
     meets-below c.value_of_years-total.result _ _ 0
     (some-denominator along group c.fractions-fractions.ensures.interest)
-    (insured-encloses along is.along group is.insurance is.unmarked is.any_cause Declared _
+    (insured-encloses along is.along group is.insurance Declared is.unmarked is.any_cause _
     c.value_of_years-total.ensures.years)
     (omega arith)
 
@@ -42,15 +42,15 @@ returns-clause-value g c = λ ties.
     let group = c.start-start.ensures.group in
     let most = c.from.ensures ∙ c.greatest_factor-most.ensures.value in
     let high = ap (λ n. n * fine)
-    (most ∙ sym (most-of-insurance along is.along group is.insurance is.unmarked is.any_cause ties)) in
+    (most ∙ sym (most-of-insurance along is.along group is.insurance ties)) in
     record {
       encloses = c.between.ensures.encloses _ _
-          (insured-above along is.along group is.insurance is.unmarked is.any_cause ties c.from.result most)
+          (insured-above along is.along group is.insurance ties c.from.result most)
           (omega arith)
-          (insured-encloses along is.along group is.insurance is.unmarked is.any_cause ties _
+          (insured-encloses along is.along group is.insurance ties is.unmarked is.any_cause _
           c.value_of_years-total.ensures.years);
       narrow = c.between.ensures.narrow _
-          (insured-narrow along is.along group is.insurance is.unmarked is.any_cause ties _
+          (insured-narrow along is.along group is.insurance ties _
           c.value_of_years-total.ensures.years);
       within = record {
         low = c.between.ensures.within.low;
