@@ -8,6 +8,7 @@
 //! The compiled forms of the pays are also answered by themselves, without a pass.
 #![tactic(auto)]
 
+mod along;
 mod by_kind;
 mod column;
 mod contract;

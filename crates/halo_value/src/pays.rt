@@ -8,7 +8,9 @@ ghost use Rattle.halo_value.specs.Reading.{CanBeRead};
 ghost use Rattle.halo_value.specs.Setting.{CanBeAsked, CanBeValued, basis_of_setting};
 
 use crate::Memory;
+use crate::along::{goes_along_the_tree, values_along};
 use crate::pass::{PayValues, pass};
+use halo_along::Along;
 use halo_compile::{Task, compile};
 use halo_contract::ReserveLine;
 use halo_interest::Interest;
@@ -30,8 +32,9 @@ pub struct Setting<'a, const N: usize> {
     pub reserves: &'a [ReserveLine],
 }
 
-/// The values of a pay at the start and at each reserve. That of a premium of 1 is at least 1 at
-/// the start.
+/// The values of a pay at the start and at each reserve: along the tree of its body, where that is
+/// the cheaper way, and else in one pass over all sets of the lives that it names. That of a
+/// premium of 1 is at least 1 at the start.
 pub fn values_of_pay<const N: usize, const M: usize, L: Ledger>(
     alloc: Global,
     pay: &Pay,
@@ -48,6 +51,15 @@ pub fn values_of_pay<const N: usize, const M: usize, L: Ledger>(
 {
     let group = setting.group;
     let horizon = horizon(&pay.body, group.tables(), group.lives());
+    if goes_along_the_tree(pay, setting.reserves.len().saturating_add(1)) {
+        let along = Along {
+            pay,
+            group,
+            interest: setting.interest,
+            horizon,
+        };
+        return values_along(alloc, &along, setting.reserves, steps);
+    }
     let form = compile::<M>(alloc, pay, horizon)?;
     let task = Task {
         pay,

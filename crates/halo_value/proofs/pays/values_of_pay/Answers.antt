@@ -23,3 +23,16 @@ returns-clause-one g c =
           c.requires.pay.named premium.at_start;
     }))
     c.pass.ensures.one
+
+pub returns-then-goes_along_the_tree-clause-one : goal.returns-then-goes_along_the_tree-clause-one
+returns-then-goes_along_the_tree-clause-one g c =
+    IfOk-weaker c.values_along.result _ _
+    (λ values one causes premium. one
+    (record {
+      due = ap (λ (pay : PlainPay). pay.kind) premium.level;
+      level = ap (λ (pay : PlainPay). pay.vary) premium.level;
+      at_once = ap (λ (pay : PlainPay). pay.defer) premium.level;
+      exists_then = exists-with-all g.row.N (is_on DueView 0) (pay_of c.args.pay.now).body c.tables.ensures.group.few
+          c.requires.pay.named premium.at_start;
+    }))
+    c.values_along.ensures.one
