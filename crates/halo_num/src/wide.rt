@@ -17,6 +17,9 @@ const LOW_PART: u128 = 1 << 57;
 /// The reciprocal of 10^18, as a multiple of 2^-123: 2^123 / 10^18, rounded down.
 const RECIPROCAL: u64 = 10_633_823_966_279_326_983;
 
+/// 10^18 in 64 bits, to divide what is left of a number.
+const FINE_FACTOR: u64 = 1_000_000_000_000_000_000;
+
 /// 2^66: what a product by the reciprocal is divided by, once 57 bits are left out.
 const RECIPROCAL_SCALE: u128 = 1 << 66;
 
@@ -29,8 +32,8 @@ pub struct Division {
 
 /// The product of `a` and `b`, divided by 10^18.
 ///
-/// Factors up to 1, as probabilities and discounts are, have a product that is divided at once, since
-/// every valuation makes most of its products of such factors.
+/// Factors up to 1, as probabilities and discounts are, have a product that is divided at once,
+/// since every valuation makes most of its products of such factors.
 pub fn divided_product(a: u128, b: u128) -> Division
     requires a_in { a ≤ 10 ^ 33 }
     requires b_in { b ≤ 10 ^ 21 }
@@ -53,20 +56,19 @@ fn product(a: u64, b: u64) -> u128
 }
 
 /// A number, divided by 10^18.
+///
+/// Behind the near whole part less than 2 * 10^18 is left, which a division of 64 bits by a constant
+/// settles without a branch.
 fn divided_by_fine(units: u128) -> Division
     requires small { units ≤ 10 ^ 36 }
     ensures whole { result.whole * fine + result.rest ≡ units }
     ensures rest { result.rest < fine }
 {
     let near = near_whole(units);
-    let rest = units - near * FINE_UNITS;
-    if rest < FINE_UNITS {
-        Division { whole: near, rest }
-    } else {
-        Division {
-            whole: near + 1,
-            rest: rest - FINE_UNITS,
-        }
+    let left = (units - near * FINE_UNITS) as u64;
+    Division {
+        whole: near + u128::from(left / FINE_FACTOR),
+        rest: u128::from(left % FINE_FACTOR),
     }
 }
 
@@ -83,6 +85,22 @@ fn near_whole(units: u128) -> u128
     product(high as u64, RECIPROCAL) / RECIPROCAL_SCALE
 }
 
+/// A factor's whole part and its rest. Most factors are below 1 and have no whole part.
+fn split_factor(units: u128) -> Division
+    requires small { units ≤ 10 ^ 36 }
+    ensures whole { result.whole * fine + result.rest ≡ units }
+    ensures rest { result.rest < fine }
+{
+    if units < FINE_UNITS {
+        Division {
+            whole: 0,
+            rest: units,
+        }
+    } else {
+        divided_by_fine(units)
+    }
+}
+
 /// The product of `a` and `b`, divided by 10^18.
 ///
 /// Each factor is split by 10^18 into a whole part and a rest: what a whole part contributes divides
@@ -94,8 +112,8 @@ fn divided_in_parts(a: u128, b: u128) -> Division
     ensures rest { result.rest < fine }
     ensures bound { result.whole ≤ 2 * 10 ^ 36 }
 {
-    let left = divided_by_fine(a);
-    let right = divided_by_fine(b);
+    let left = split_factor(a);
+    let right = split_factor(b);
     let low = divided_by_fine(product(left.rest as u64, right.rest as u64));
     Division {
         whole: left.whole * b + left.rest * right.whole + low.whole,

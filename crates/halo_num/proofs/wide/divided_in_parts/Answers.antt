@@ -4,8 +4,8 @@ use Rattle.halo_num.proofs.wide.divided_in_parts.Goals as goal
 
 pub returns-clause-whole : goal.returns-clause-whole
 returns-clause-whole c =
-    let left = c.divided_by_fine-left in
-    let right = c.divided_by_fine-right in
+    let left = c.split_factor-left in
+    let right = c.split_factor-right in
     let low = c.divided_by_fine-low in
     product-split c.args.a c.args.b left.result.whole left.result.rest right.result.whole right.result.rest
     low.result.whole low.result.rest left.ensures.whole right.ensures.whole (low.ensures.whole ∙ c.product.ensures)
