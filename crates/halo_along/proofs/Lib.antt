@@ -16,7 +16,6 @@ pub mod PresentSums
 pub mod LeavingYears
 pub mod OneEnd
 pub mod EndYears
-pub mod Members
 pub mod ByParts
 pub mod Contingents
 pub mod NamedLives

@@ -13,9 +13,8 @@ ghost use Rattle.halo_along.specs.Contingent.{EnclosesInOrder, EnclosesOnLife, E
 
 use crate::along::Along;
 use crate::ending::value_of_ends;
-use crate::failing::failing_lives;
 use crate::leaving::value_of_leavings;
-use halo_compile::{between, greatest_factor};
+use halo_compile::{between, failing_lives, greatest_factor};
 use halo_num::{Ival, Steps};
 use halo_sums::has_bit;
 use std::sync::ledger::Ledger;

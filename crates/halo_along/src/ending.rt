@@ -9,10 +9,10 @@ ghost use Rattle.halo_along.specs.Contingent.{EnclosesEnd, EnclosesEnds, Enclose
 ghost use Rattle.halo_along.specs.Years.{IsDiscount};
 
 use crate::along::Along;
-use crate::failing::can_fall_on_term;
 use crate::insured_years::insured_in;
 use crate::lives::survivals;
 use halo_chance::end_loss;
+use halo_compile::can_fall_on_term;
 use halo_interest::LAST_TIME;
 use halo_num::{Ival, ONE_IN_FINE_UNITS, Steps};
 use std::sync::ledger::Ledger;

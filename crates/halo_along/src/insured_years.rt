@@ -10,8 +10,8 @@ ghost use Rattle.halo_along.specs.Insured.{EnclosesInsuredYear, EnclosesInsuredY
 ghost use Rattle.halo_along.specs.Years.{EnclosesOnePaid};
 
 use crate::along::Along;
-use crate::payment::{MOST_PAID, factor};
 use crate::years::value_of_one;
+use halo_compile::{MOST_PAID, factor};
 use halo_interest::LAST_TIME;
 use halo_num::{Ival, ONE_IN_FINE_UNITS, Steps};
 use halo_status::Pay;

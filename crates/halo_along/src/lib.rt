@@ -17,7 +17,6 @@ mod contingent;
 #[cfg(test)]
 mod contingent_tests;
 mod ending;
-mod failing;
 mod insurance;
 #[cfg(test)]
 mod insured_tests;
@@ -25,7 +24,6 @@ mod insured_years;
 mod leaving;
 mod lives;
 mod parts;
-mod payment;
 #[cfg(test)]
 mod tests;
 mod years;

@@ -12,8 +12,7 @@ ghost use Rattle.halo_along.specs.Parts.{EnclosesWorthOnLife, EnclosesWorthOnTer
 use crate::along::Along;
 use crate::contingent::value_of_life;
 use crate::ending::{discount_to, value_of_end};
-use crate::failing::can_fall_on_term;
-use halo_compile::{between, greatest_factor};
+use halo_compile::{between, can_fall_on_term, greatest_factor};
 use halo_interest::LAST_TIME;
 use halo_num::{Ival, Steps};
 use std::sync::ledger::Ledger;

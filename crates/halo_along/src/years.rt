@@ -10,8 +10,8 @@ ghost use Rattle.halo_along.specs.Years.{EnclosesOnePaid, EnclosesPayment, Enclo
 
 use crate::along::Along;
 use crate::lives::survivals;
-use crate::payment::paid_at;
 use halo_chance::chance;
+use halo_compile::paid_at;
 use halo_num::{Ival, ONE_IN_FINE_UNITS, Steps};
 use halo_status::{Kind, View};
 use std::sync::ledger::Ledger;

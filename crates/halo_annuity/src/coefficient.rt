@@ -3,7 +3,7 @@ ghost use Rattle.std.specs.Prelude.{◌≡◌, ◌*◌, ◌^◌, ◌≤◌, pos}
 ghost use Rattle.halo_num.specs.Ends.{IsSized, IsWithin, fine};
 ghost use Rattle.halo_model.specs.Backward.{above_zero, below_zero};
 
-use crate::payment::MOST_PAID;
+use halo_compile::MOST_PAID;
 use halo_num::{Ival, ONE_IN_FINE_UNITS};
 
 /// The greatest size of a coefficient of a set of at most twelve lives: 2^11.

@@ -11,7 +11,6 @@ mod annuities;
 mod carry;
 mod coefficient;
 mod one_set;
-mod payment;
 mod sets;
 mod step;
 mod term;

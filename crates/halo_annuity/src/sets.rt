@@ -9,7 +9,7 @@ ghost use Rattle.halo_poly.specs.Poly.{coefficient_at};
 ghost use Rattle.halo_annuity.specs.SetSteps.{GrowsBy};
 
 use crate::coefficient::{GREATEST_COEFFICIENT, above_zero, below_zero, ones};
-use crate::payment::MOST_PAID;
+use halo_compile::MOST_PAID;
 use halo_life::Work;
 use halo_num::Ival;
 use halo_poly::Poly;

@@ -12,9 +12,8 @@ ghost use Rattle.halo_compile.specs.NamedSets.{AreNamed, named_of_task};
 ghost use Rattle.halo_annuity.specs.Worth.{HoldCarried, HoldValues};
 
 use crate::carry::carry_back;
-use crate::payment::paid_at;
 use crate::sets::{clear, pay_sets};
-use halo_compile::Task;
+use halo_compile::{Task, paid_at};
 use halo_life::Work;
 use halo_num::Steps;
 use halo_status::Kind;

@@ -11,8 +11,7 @@ ghost use Rattle.halo_annuity.specs.RunWorth.{EnclosesPart, EnclosesRun, run_fro
 use crate::carry::carried;
 use crate::coefficient::{GREATEST_COEFFICIENT, above_zero, below_zero, ones};
 use crate::one_set::year;
-use crate::payment::paid_at;
-use halo_compile::Task;
+use halo_compile::{Task, paid_at};
 use halo_num::{Ival, Steps};
 use std::sync::ledger::Ledger;
 

@@ -1,4 +1,5 @@
 pub mod Members
+pub mod MembersAt
 pub mod SetLists
 pub mod Agreeing
 pub mod Marking

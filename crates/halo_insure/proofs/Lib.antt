@@ -6,7 +6,6 @@ pub mod Signs
 pub mod Horizon
 pub mod Counted
 pub mod Total
-pub mod Members
 pub mod DueOfSet
 pub mod Small
 pub mod Carried

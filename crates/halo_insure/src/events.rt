@@ -8,7 +8,7 @@ ghost use Rattle.halo_insure.specs.Dues.{ends_count};
 ghost use Rattle.halo_insure.specs.Events.{AreEventsOf, events_of};
 ghost use Rattle.halo_insure.specs.Leavings.{counts};
 
-use crate::failing::{can_fall_on_term, failing_lives};
+use halo_compile::{can_fall_on_term, failing_lives};
 use halo_status::Pay;
 
 /// Every event, the leaving of one life, or the end of the terms of so many years.

@@ -9,7 +9,6 @@
 
 mod due;
 mod events;
-mod failing;
 pub mod laws;
 mod leavings;
 mod one_year;

@@ -13,10 +13,9 @@ ghost use Rattle.halo_insure.specs.OfTask.{insured_basis};
 ghost use Rattle.halo_insure.specs.Parts.{EnclosesEnd, EnclosesLeaving, EnclosesPartOfOne};
 
 use crate::events::Events;
-use crate::failing::{can_fall_on_term, failing_lives};
 use crate::pass::pass;
 use crate::value::worth_at;
-use halo_compile::Task;
+use halo_compile::{Task, can_fall_on_term, failing_lives};
 use halo_interest::LAST_TIME;
 use halo_life::Work;
 use halo_num::{Ival, Steps};

@@ -14,10 +14,9 @@ ghost use Rattle.halo_compile.specs.OfTask.{pay_of_task};
 ghost use Rattle.halo_insure.specs.OfTask.{HoldDuesAt, HoldDuesOn};
 
 use crate::due::{YearPays, payment_in};
-use crate::failing::{can_fall_on_term, failing_lives};
 use crate::leavings::leavings;
 use crate::sets::{Year, clear, sets_back};
-use halo_compile::Task;
+use halo_compile::{Task, can_fall_on_term, failing_lives};
 use halo_life::Work;
 use halo_num::Steps;
 use halo_sums::next_within;

@@ -1,7 +1,7 @@
 use Rattle.std.proofs.Common.{◌≡◌, arith, false, nat_lt}
 use Rattle.std.proofs.lemmas.Bool.Decides.{nat_tests}
-use Rattle.halo_insure.proofs.Members.{member-is, no-member}
-use Rattle.halo_insure.proofs.failing.member_has_term.Goals as goal
+use Rattle.halo_compile.proofs.MembersAt.{member-is, no-member}
+use Rattle.halo_compile.proofs.failing.member_has_term.Goals as goal
 
 pub returns-then-place-len : goal.returns-then-place-len
 returns-then-place-len c =

@@ -1,7 +1,7 @@
 use Rattle.std.proofs.Common.{arith}
 use Rattle.halo_status.proofs.Words.{has_bit-none}
-use Rattle.halo_insure.proofs.Members.{member-is, member-names, no-member}
-use Rattle.halo_insure.proofs.failing.member_lives.Goals as goal
+use Rattle.halo_compile.proofs.MembersAt.{member-is, member-names, no-member}
+use Rattle.halo_compile.proofs.failing.member_lives.Goals as goal
 
 pub lives-requires : goal.lives-requires
 lives-requires c =

@@ -50,8 +50,8 @@ fn years_passed(kind: Kind, defer: u16, t: u16) -> u16
     }
 }
 
-// The factor after so many years.
-pub(crate) fn factor(vary: Vary, passed: u16) -> u16
+/// The factor after so many years.
+pub fn factor(vary: Vary, passed: u16) -> u16
     requires time { passed ≤ LAST_TIME }
     requires vary { HasValidVary vary }
     ensures value { result ≡ factor vary passed }

@@ -12,7 +12,7 @@ use halo_status::{Members, Pay, Status};
 
 /// The lives on whose leaving a payment can fall.
 #[tactic(auto, using(halo_status::proofs::Shapes::shapes))]
-pub(crate) fn failing_lives(pay: &Pay) -> u16
+pub fn failing_lives(pay: &Pay) -> u16
     requires { NamesLivesBelow 16 (tree_of pay.now.body) }
     ensures { (i : ℕ) → has_bit result i ≡ can_fall_on_life (pay_of pay.now) i }
 {
@@ -44,7 +44,7 @@ fn member_lives(members: &Members, place: usize) -> u16
 }
 
 /// Whether a payment can fall on the end of a term of `n` years: not where there are causes.
-pub(crate) fn can_fall_on_term(pay: &Pay, n: u16) -> bool
+pub fn can_fall_on_term(pay: &Pay, n: u16) -> bool
     ensures { result ≡ can_fall_on_term (pay_of pay.now) n }
 {
     match pay.causes {
