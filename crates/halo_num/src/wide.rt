@@ -57,8 +57,8 @@ fn product(a: u64, b: u64) -> u128
 
 /// A number, divided by 10^18.
 ///
-/// Behind the near whole part less than 2 * 10^18 is left, which a division of 64 bits by a constant
-/// settles without a branch.
+/// Behind the near whole part less than 2 * 10^18 is left, which a division of 64 bits by a
+/// constant settles without a branch.
 fn divided_by_fine(units: u128) -> Division
     requires small { units ≤ 10 ^ 36 }
     ensures whole { result.whole * fine + result.rest ≡ units }
@@ -103,8 +103,8 @@ fn split_factor(units: u128) -> Division
 
 /// The product of `a` and `b`, divided by 10^18.
 ///
-/// Each factor is split by 10^18 into a whole part and a rest: what a whole part contributes divides
-/// exactly, and only the product of the two rests leaves a rest.
+/// Each factor is split by 10^18 into a whole part and a rest: what a whole part contributes
+/// divides exactly, and only the product of the two rests leaves a rest.
 fn divided_in_parts(a: u128, b: u128) -> Division
     requires a_in { a ≤ 10 ^ 33 }
     requires b_in { b ≤ 10 ^ 21 }
