@@ -24,11 +24,11 @@ use Rattle.halo_model.specs.Value.{denominator, numerator}
 use Rattle.halo_life.specs.PlainGroup.{IsGroup}
 use Rattle.halo_compile.proofs.Sums.{wider}
 use Rattle.halo_compile.proofs.Tasks.{count-lives}
-use Rattle.halo_along.specs.Along.{IsAlong, basis_of_along}
+use Rattle.halo_along.specs.Along.{IsTreeTask, basis_of_tree_task}
 use Rattle.halo_along.specs.Contingent.{EnclosesEnds, EnclosesOnLife, EnclosesOnLives, value_on_ends}
 use Rattle.halo_along.specs.Leavings.{EnclosesLeavings, declared_rank, value_on_leavings, width_of_falling}
 use Rattle.halo_along.specs.Years.{EnclosesPresent, present_whole}
-use Rattle.halo_along.specs.declared.along.Along.{Along}
+use Rattle.halo_along.specs.declared.tree_task.TreeTask.{TreeTask}
 use Rattle.halo_along.proofs.ByParts.{falling-named, gone-leavings, in-declared-order, leavings-to-horizon, silent-leavings}
 use Rattle.halo_along.proofs.Counting.{greatest-some, some-nodes}
 use Rattle.halo_along.proofs.InsuredWhole.{group-ends, share-some}
@@ -139,9 +139,9 @@ one-term-products years horizon named m few =
     mul-le-mul_right ((horizon + 1) * square) (omega arith) in
     omega (arith, few, one, a, c)
 
-module _ {n : ℕ} (along : Along n) where
+module _ {n : ℕ} (along : TreeTask n) where
   abbrev b : Basis
-  b = basis_of_along along Declared
+  b = basis_of_tree_task along Declared
 
   abbrev pay : PlainPay
   pay = of_one (pay_of along.pay.now)
@@ -168,7 +168,7 @@ module _ {n : ℕ} (along : Along n) where
   gone-life a i gone low high = nothing-encloses _ _ _ _ _ _ i (gone-leavings b pay start living a gone) low high
 
   -- on that of another the years to the horizon tell what falls
-  pub falling-life : IsAlong along → IsGroup n along.group.now → (a : ℕ) (i : Ends)
+  pub falling-life : IsTreeTask along → IsGroup n along.group.now → (a : ℕ) (i : Ends)
       → can_fall_on_life (pay_of along.pay.now) a ≡ true → EnclosesLeavings along a (along.horizon - start) i
       → EnclosesOnLife along a i
   unfolding EnclosesOnLife EnclosesLeavings
@@ -210,7 +210,7 @@ module _ {n : ℕ} (along : Along n) where
   unfolding EnclosesOnLife
   life-small a i short is = present-small _ _ _ _ _ _ i (omega (arith, short)) is
 
-  module _ (is : IsAlong along) (group : IsGroup n along.group.now) (kind : along.pay.now.kind ≡ Insurance)
+  module _ (is : IsTreeTask along) (group : IsGroup n along.group.now) (kind : along.pay.now.kind ≡ Insurance)
       (leavings ends total : Ends) (on_lives : EnclosesOnLives along n leavings)
       (on_ends : EnclosesEnds along (along.horizon - start) ends)
       (low : total.lo ≡ leavings.lo +ℤ ends.lo) (high : total.hi ≡ leavings.hi +ℤ ends.hi) where

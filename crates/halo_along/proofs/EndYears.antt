@@ -10,16 +10,16 @@ use Rattle.halo_model.specs.Basis.{Basis, discounted}
 use Rattle.halo_model.specs.Enclosed.{of_one}
 use Rattle.halo_model.specs.SetValue.{can_fall_on_term}
 use Rattle.halo_model.proofs.NoFall.{no-chance-on-end}
-use Rattle.halo_along.specs.Along.{basis_of_along}
+use Rattle.halo_along.specs.Along.{basis_of_tree_task}
 use Rattle.halo_along.specs.Contingent.{EnclosesEnd, EnclosesEnds, value_of_one_on_end, value_on_end}
 use Rattle.halo_along.specs.Insured.{insured_in}
 use Rattle.halo_along.specs.Leavings.{declared_rank}
-use Rattle.halo_along.specs.declared.along.Along.{Along}
+use Rattle.halo_along.specs.declared.tree_task.TreeTask.{TreeTask}
 use Rattle.halo_along.proofs.PresentSums.{both-encloses, nothing-encloses, one-year-more, present-small}
 
-module _ {n : ℕ} (along : Along n) where
+module _ {n : ℕ} (along : TreeTask n) where
   abbrev b : Basis
-  b = basis_of_along along Declared
+  b = basis_of_tree_task along Declared
 
   abbrev pay : PlainPay
   pay = of_one (pay_of along.pay.now)

@@ -31,10 +31,10 @@ use Rattle.halo_model.proofs.RanksAsk.{ranks-ask}
 use Rattle.halo_life.specs.PlainGroup.{IsGroup, PlainGroup}
 use Rattle.halo_compile.proofs.Sums.{wider}
 use Rattle.halo_compile.proofs.Tasks.{group-lives}
-use Rattle.halo_along.specs.Along.{IsAlong, basis_of_along}
+use Rattle.halo_along.specs.Along.{IsTreeTask, basis_of_tree_task}
 use Rattle.halo_along.specs.Insured.{EnclosesInsuredYears, insured_value_of_years}
 use Rattle.halo_along.specs.Years.{present_whole}
-use Rattle.halo_along.specs.declared.along.Along.{Along}
+use Rattle.halo_along.specs.declared.tree_task.TreeTask.{TreeTask}
 use Rattle.halo_along.proofs.Counting.{greatest-some, some-nodes}
 use Rattle.halo_along.proofs.Insured.{insurance-by-years-to-horizon}
 use Rattle.halo_along.proofs.OneLeaving.{unit-valid}
@@ -125,10 +125,10 @@ pub most-is : (kind : Kind) → kind ≡ Insurance → (m : Measures) → most_w
 unfolding most_worth
 most-is kind e m = rw e refl
 
-module _ {n : ℕ} (along : Along n) (is : IsAlong along) (group : IsGroup n along.group.now)
+module _ {n : ℕ} (along : TreeTask n) (is : IsTreeTask along) (group : IsGroup n along.group.now)
     (kind : along.pay.now.kind ≡ Insurance) (ties : Ties) where
   abbrev b : Basis
-  b = basis_of_along along ties
+  b = basis_of_tree_task along ties
 
   abbrev pay : PlainPay
   pay = pay_of along.pay.now

@@ -21,10 +21,10 @@ use Rattle.halo_model.specs.Enclosed.{of_one}
 use Rattle.halo_model.specs.Part.{existing_weight}
 use Rattle.halo_model.specs.Payment.{factor, payment}
 use Rattle.halo_compile.proofs.Sums.{wider}
-use Rattle.halo_along.specs.Along.{IsAlong, basis_of_along}
+use Rattle.halo_along.specs.Along.{IsTreeTask, basis_of_tree_task}
 use Rattle.halo_along.specs.Insured.{insured_in, insured_width}
 use Rattle.halo_along.specs.Years.{EnclosesOnePaid, present_value_of_one, present_whole, width_of_one}
-use Rattle.halo_along.specs.declared.along.Along.{Along}
+use Rattle.halo_along.specs.declared.tree_task.TreeTask.{TreeTask}
 use Rattle.halo_along.proofs.Counting.{cond-within, factor-within}
 use Rattle.halo_along.proofs.Insured.{value-at-end, year-pays-fall}
 
@@ -68,7 +68,7 @@ insured-within pay one k years h =
     ap (λ (a : ℕ). a * factor pay.vary (k - pay.defer)) one in
     omega (arith, e, factor-within pay.vary (k - pay.defer) years (omega arith)))
 
-module _ {n : ℕ} (along : Along n) where
+module _ {n : ℕ} (along : TreeTask n) where
   -- a value of existence is at most 1
   pub existing-within : (t : ℕ) (i : Ends) → EnclosesOnePaid along t i → IsWithin i (pos 0) (pos fine)
   unfolding EnclosesOnePaid
@@ -92,7 +92,7 @@ module _ {n : ℕ} (along : Along n) where
         },
       )
 
-  module _ (is : IsAlong along) (k : ℕ) (from : along.group.now.start ≤ k) (before : k < along.horizon) where
+  module _ (is : IsTreeTask along) (k : ℕ) (from : along.group.now.start ≤ k) (before : k < along.horizon) where
     -- the widths of the two values, of the discount and of the factor
     pub year-narrow : (r : Ends) (paid : ℕ) → paid ≡ insured_in (of_one (pay_of along.pay.now)) k
         → HasWidth r ((width_of_one along + 1 + 1 + width_of_one along) * paid)
@@ -114,9 +114,9 @@ module _ {n : ℕ} (along : Along n) where
       -- the value at the start of the year, discounted to its end, less the value at the end, times the payment
       pub year-encloses : EnclosesOnePaid along k existing → EnclosesOnePaid along (suc k) next
           → (ties : Ties) → Encloses r
-          (year_part (basis_of_along along ties) (of_one (pay_of along.pay.now)) along.group.now.start
+          (year_part (basis_of_tree_task along ties) (of_one (pay_of along.pay.now)) along.group.now.start
           (has_bit along.group.now.alive) k)
-          (present_whole (basis_of_along along ties) along.group.now.start (has_bit along.group.now.alive))
+          (present_whole (basis_of_tree_task along ties) along.group.now.start (has_bit along.group.now.alive))
       unfolding EnclosesOnePaid
       year-encloses now then ties =
           let turned = value-at-end b pay T S k from (omega (arith, before, is.horizon_in)) in
@@ -129,7 +129,7 @@ module _ {n : ℕ} (along : Along n) where
           (difference value (present_value_of_one b pay T S (suc k)) whole there (then ties).encloses))
         where
           b : Basis
-          b = basis_of_along along ties
+          b = basis_of_tree_task along ties
 
           pay : PlainPay
           pay = of_one (pay_of along.pay.now)

@@ -11,9 +11,9 @@ use Rattle.halo_status.specs.Pay.{pay_of}
 use Rattle.halo_contract.specs.declared.ties.Ties.TheVariants.{Declared}
 use Rattle.halo_model.specs.ByYears.{year_part}
 use Rattle.halo_model.specs.Enclosed.{of_one}
-use Rattle.halo_along.specs.Along.{basis_of_along}
+use Rattle.halo_along.specs.Along.{basis_of_tree_task}
 use Rattle.halo_along.specs.Insured.{EnclosesInsuredYear, EnclosesInsuredYears}
-use Rattle.halo_along.specs.declared.along.Along.{Along}
+use Rattle.halo_along.specs.declared.tree_task.TreeTask.{TreeTask}
 
 -- the products of a year more: one for its discount factor, those of a value of existence, and one for its discount
 pub insured-products : (old before now next after square t start : ℕ) → start ≤ t
@@ -23,7 +23,7 @@ insured-products old before now next after square t start from so_far discount e
     let years : t + 1 - start ≡ (t - start) + 1 = omega arith in
     rw years (omega (arith, so_far, discount, existing, at_end))
 
-module _ {n : ℕ} (along : Along n) where
+module _ {n : ℕ} (along : TreeTask n) where
   abbrev start : ℕ
   start = along.group.now.start
 
@@ -57,7 +57,7 @@ module _ {n : ℕ} (along : Along n) where
       })
     where
       value : ℕ → ℤ
-      value = year_part (basis_of_along along ties) (of_one (pay_of along.pay.now)) start
+      value = year_part (basis_of_tree_task along ties) (of_one (pay_of along.pay.now)) start
           (has_bit along.group.now.alive)
 
       here : start + (t - start) ≡ t

@@ -7,10 +7,10 @@ use Rattle.halo_num.specs.Ends.{Ends, IsWithin}
 use Rattle.halo_status.specs.Pay.{PlainPay, pay_of}
 use Rattle.halo_contract.specs.declared.ties.Ties.TheVariants.{Declared}
 use Rattle.halo_model.specs.Enclosed.{of_one}
-use Rattle.halo_along.specs.Along.{basis_of_along}
+use Rattle.halo_along.specs.Along.{basis_of_tree_task}
 use Rattle.halo_along.specs.Insured.{insured_in}
 use Rattle.halo_along.specs.Leavings.{EnclosesLeaving, EnclosesLeavings, value_of_one_on_leaving, value_on_leaving}
-use Rattle.halo_along.specs.declared.along.Along.{Along}
+use Rattle.halo_along.specs.declared.tree_task.TreeTask.{TreeTask}
 use Rattle.halo_along.proofs.PresentSums.{both-encloses, nothing-encloses, one-year-more, present-small}
 
 -- where an insurance pays it is not deferred
@@ -29,7 +29,7 @@ falling-products old before now new square t start from so_far one more_of_year 
     let years : t + 1 - start ≡ (t - start) + 1 = omega arith in
     rw years (omega (arith, so_far, one, more_of_year))
 
-module _ {n : ℕ} (along : Along n) (a : ℕ) where
+module _ {n : ℕ} (along : TreeTask n) (a : ℕ) where
   abbrev start : ℕ
   start = along.group.now.start
 
@@ -38,7 +38,7 @@ module _ {n : ℕ} (along : Along n) (a : ℕ) where
       → i.lo ≡ pos 0 → i.hi ≡ pos 0 → EnclosesLeaving along a k i
   unfolding EnclosesLeaving
   leaving-unpaid k paid i is none low high =
-      let value = value_of_one_on_leaving (basis_of_along along Declared) (of_one (pay_of along.pay.now)) start
+      let value = value_of_one_on_leaving (basis_of_tree_task along Declared) (of_one (pay_of along.pay.now)) start
       (has_bit along.group.now.alive) a k in
       nothing-encloses _ _ _ _ _ _ i (rw (← is, none) (*ℤ-zero value)) low high
 
@@ -59,7 +59,7 @@ module _ {n : ℕ} (along : Along n) (a : ℕ) where
       let years : t + 1 - start ≡ (t - start) + 1 = omega arith in
       both-encloses _ _ _ _ _ _ _ _ _ _ _ _ sum year r
       (one-year-more start t
-      (value_on_leaving (basis_of_along along Declared) (of_one (pay_of along.pay.now)) start
+      (value_on_leaving (basis_of_tree_task along Declared) (of_one (pay_of along.pay.now)) start
       (has_bit along.group.now.alive) a) from)
       (rw years (omega arith)) (rw years (omega arith)) of_sum of_year low high
 

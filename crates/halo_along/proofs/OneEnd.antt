@@ -32,12 +32,12 @@ use Rattle.halo_chance.specs.Present.{discount_to, discount_whole}
 use Rattle.halo_chance.proofs.EndLosses.{pay-end-loss-is-not-negative}
 use Rattle.halo_chance.proofs.Enclosing.{whole-positive}
 use Rattle.halo_chance.proofs.Present.{end-present}
-use Rattle.halo_along.specs.Along.{IsAlong, basis_of_along}
+use Rattle.halo_along.specs.Along.{IsTreeTask, basis_of_tree_task}
 use Rattle.halo_along.specs.Contingent.{EnclosesOneEnd}
 use Rattle.halo_along.specs.Leavings.{declared_rank, width_of_event}
 use Rattle.halo_along.specs.Lives.{EncloseSurvival}
 use Rattle.halo_along.specs.Years.{IsDiscount}
-use Rattle.halo_along.specs.declared.along.Along.{Along}
+use Rattle.halo_along.specs.declared.tree_task.TreeTask.{TreeTask}
 use Rattle.halo_along.proofs.OneLeaving.{lives-are, named-below, unit-valid, waited-enclosed}
 use Rattle.halo_along.proofs.Waits.{end-loss-width}
 
@@ -51,12 +51,12 @@ any-cause : (causes : Option ℕ) (n : ℕ) → by_cause causes (ends n) ≡ tru
 any-cause None n e = refl
 any-cause (Some causes) n e = absurd (cc)
 
-module _ {n : ℕ} (along : Along n) (is : IsAlong along) (group : IsGroup n along.group.now)
+module _ {n : ℕ} (along : TreeTask n) (is : IsTreeTask along) (group : IsGroup n along.group.now)
     (interest : IsInterest along.interest.now) (kind : along.pay.now.kind ≡ Insurance)
     (k : ℕ) (falls : can_fall_on_term (pay_of along.pay.now) (suc k) ≡ true) (deferred : along.pay.now.defer ≤ k)
     (from : along.group.now.start ≤ k) (before : k < along.horizon) where
   abbrev b : Basis
-  b = basis_of_along along Declared
+  b = basis_of_tree_task along Declared
 
   abbrev pay : PlainPay
   pay = of_one (pay_of along.pay.now)

@@ -50,10 +50,10 @@ use Rattle.halo_chance.specs.Present.{discount_to, discount_whole}
 use Rattle.halo_chance.proofs.Enclosing.{whole-positive}
 use Rattle.halo_chance.proofs.Losses.{enclosed-put}
 use Rattle.halo_chance.proofs.Present.{leaving-present}
-use Rattle.halo_along.specs.Along.{IsAlong, basis_of_along}
+use Rattle.halo_along.specs.Along.{IsTreeTask, basis_of_tree_task}
 use Rattle.halo_along.specs.Leavings.{EncloseLookedAt, EnclosesOneLeaving, declared_rank, width_of_event}
 use Rattle.halo_along.specs.Years.{IsDiscount, present_whole}
-use Rattle.halo_along.specs.declared.along.Along.{Along}
+use Rattle.halo_along.specs.declared.tree_task.TreeTask.{TreeTask}
 use Rattle.halo_along.proofs.Waits.{loss-width}
 
 -- a life has a year in its table, or nobody leaves as it does then
@@ -108,10 +108,10 @@ unit-valid pay is kind = record {
   kind = kind;
 }
 
-module _ {n : ℕ} (along : Along n) (is : IsAlong along) (group : IsGroup n along.group.now)
+module _ {n : ℕ} (along : TreeTask n) (is : IsTreeTask along) (group : IsGroup n along.group.now)
     (interest : IsInterest along.interest.now) (kind : along.pay.now.kind ≡ Insurance) where
   abbrev b : Basis
-  b = basis_of_along along Declared
+  b = basis_of_tree_task along Declared
 
   abbrev pay : PlainPay
   pay = of_one (pay_of along.pay.now)

@@ -29,10 +29,10 @@ use Rattle.halo_chance.specs.Enclosed.{AreEnclosed, life_widths}
 use Rattle.halo_chance.specs.Present.{discount_to, discount_whole}
 use Rattle.halo_chance.proofs.Enclosing.{whole-positive}
 use Rattle.halo_chance.proofs.Present.{existing-present}
-use Rattle.halo_along.specs.Along.{IsAlong, basis_of_along}
+use Rattle.halo_along.specs.Along.{IsTreeTask, basis_of_tree_task}
 use Rattle.halo_along.specs.Lives.{EncloseSurvival}
 use Rattle.halo_along.specs.Years.{EnclosesPresent, IsDiscount, present_value_of_one, width_of_one}
-use Rattle.halo_along.specs.declared.along.Along.{Along}
+use Rattle.halo_along.specs.declared.tree_task.TreeTask.{TreeTask}
 use Rattle.halo_along.proofs.Counting.{places-in-nodes}
 
 -- the ends of a chance are in order
@@ -40,10 +40,10 @@ in-order : (n d w : ℕ) (i : Ends) → 0 < d → EnclosesChance n d w i → i.l
 in-order n d w i some is = le_of_mul_pos i.lo i.hi d some
     (le_trans (i.lo *ℤ pos d) (pos n *ℤ pos fine) (i.hi *ℤ pos d) is.encloses.low is.encloses.high)
 
-module _ {n : ℕ} (along : Along n) (is : IsAlong along) (plain : along.pay.now.mark ≡ None)
+module _ {n : ℕ} (along : TreeTask n) (is : IsTreeTask along) (plain : along.pay.now.mark ≡ None)
     (group : IsGroup n along.group.now) (interest : IsInterest along.interest.now) (ties : Ties) where
   abbrev b : Basis
-  b = basis_of_along along ties
+  b = basis_of_tree_task along ties
 
   abbrev pay : PlainPay
   pay = of_one (pay_of along.pay.now)

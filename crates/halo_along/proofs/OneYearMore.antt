@@ -16,11 +16,11 @@ use Rattle.halo_contract.specs.declared.ties.Ties.TheVariants.{Declared}
 use Rattle.halo_model.specs.Basis.{Basis}
 use Rattle.halo_model.specs.Enclosed.{of_one}
 use Rattle.halo_model.specs.Segment.{first_time}
-use Rattle.halo_along.specs.Along.{basis_of_along}
+use Rattle.halo_along.specs.Along.{basis_of_tree_task}
 use Rattle.halo_along.specs.Years.{EnclosesPayment, EnclosesYears, IsDiscount, present_value}
-use Rattle.halo_along.specs.declared.along.Along.{Along}
+use Rattle.halo_along.specs.declared.tree_task.TreeTask.{TreeTask}
 
-module _ {n : ℕ} (along : Along n) where
+module _ {n : ℕ} (along : TreeTask n) where
   abbrev start : ℕ
   start = along.group.now.start
 
@@ -81,7 +81,7 @@ module _ {n : ℕ} (along : Along n) where
       })
     where
       b : Basis
-      b = basis_of_along along ties
+      b = basis_of_tree_task along ties
 
       pay : PlainPay
       pay = of_one (pay_of along.pay.now)

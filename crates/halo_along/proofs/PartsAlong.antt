@@ -31,12 +31,12 @@ use Rattle.halo_model.proofs.Outside.{no-chance-on-end-outside}
 use Rattle.halo_life.specs.PlainGroup.{IsGroup}
 use Rattle.halo_compile.proofs.Sums.{wider}
 use Rattle.halo_compile.proofs.Tasks.{group-lives}
-use Rattle.halo_along.specs.Along.{IsAlong, basis_of_along}
+use Rattle.halo_along.specs.Along.{IsTreeTask, basis_of_tree_task}
 use Rattle.halo_along.specs.Contingent.{EnclosesEnd, EnclosesOnLife}
 use Rattle.halo_along.specs.Leavings.{declared_rank, width_of_falling}
 use Rattle.halo_along.specs.Parts.{EnclosesPartOfOne, EnclosesWorthOnTerm, worth_on_end, worth_on_leaving}
 use Rattle.halo_along.specs.Years.{EnclosesPresent, present_whole}
-use Rattle.halo_along.specs.declared.along.Along.{Along}
+use Rattle.halo_along.specs.declared.tree_task.TreeTask.{TreeTask}
 use Rattle.halo_along.proofs.ByParts.{end-in-year, ending-named}
 use Rattle.halo_along.proofs.Contingents.{falling-count-has-room}
 use Rattle.halo_along.proofs.Counting.{greatest-some, some-nodes}
@@ -71,9 +71,9 @@ none-enclosed b pay T S part i none low high = record {
   within = record { low = omega (arith, ints, low); high = omega (arith, ints, high) };
 }
 
-module _ {n : ℕ} (along : Along n) where
+module _ {n : ℕ} (along : TreeTask n) where
   abbrev b : Basis
-  b = basis_of_along along Declared
+  b = basis_of_tree_task along Declared
 
   abbrev pay : PlainPay
   pay = of_one (pay_of along.pay.now)
@@ -109,12 +109,12 @@ module _ {n : ℕ} (along : Along n) where
         (λ causes deferred since. absurd (omega (arith, some, past, since))))) low high
 
     -- one on which a payment can fall ends by the horizon
-    pub falling-term-in : IsAlong along → can_fall_on_term (pay_of along.pay.now) years ≡ true → years ≤ along.horizon
+    pub falling-term-in : IsTreeTask along → can_fall_on_term (pay_of along.pay.now) years ≡ true → years ≤ along.horizon
     falling-term-in is falls =
         let covers = (horizon-is-least b.lives pay.body (horizon b.lives pay.body)).0 (omega arith) in
         rw is.horizon_is (covers.each_term years (ending-named pay years falls))
 
-  module _ (is : IsAlong along) (group : IsGroup n along.group.now) (kind : along.pay.now.kind ≡ Insurance) (most : ℕ)
+  module _ (is : IsTreeTask along) (group : IsGroup n along.group.now) (kind : along.pay.now.kind ≡ Insurance) (most : ℕ)
       (is_most : most ≡ greatest_factor along.pay.now.vary along.horizon) where
     same-most : most_paid b pay ≡ most
     same-most =

@@ -13,9 +13,9 @@ use Rattle.halo_model.specs.Backward.{paid_at}
 use Rattle.halo_model.specs.Basis.{Basis}
 use Rattle.halo_model.specs.Counts.{greatest_factor}
 use Rattle.halo_model.specs.Enclosed.{of_one}
-use Rattle.halo_along.specs.Along.{basis_of_along}
+use Rattle.halo_along.specs.Along.{basis_of_tree_task}
 use Rattle.halo_along.specs.Years.{EnclosesOnePaid, EnclosesPayment, EnclosesPresent, present_value_of_one}
-use Rattle.halo_along.specs.declared.along.Along.{Along}
+use Rattle.halo_along.specs.declared.tree_task.TreeTask.{TreeTask}
 use Rattle.halo_along.proofs.Counting.{paid-within}
 
 -- a payment is a number, however it is written
@@ -82,7 +82,7 @@ module _ (b : Basis) (T : ℕ) (S : ℕ → Bool) (value : ℤ) (w : ℕ) (one :
         within = part-within one r paid few order part (rw e at low) (rw e at high);
       }
 
-module _ {n : ℕ} (along : Along n) (t : ℕ) (one : Ends) (is : EnclosesOnePaid along t one)
+module _ {n : ℕ} (along : TreeTask n) (t : ℕ) (one : Ends) (is : EnclosesOnePaid along t one)
     (order : one.lo ≤ℤ one.hi) (written : ℤ) (paid : ℕ) (is_paid : written ≡ pos paid) (few : paid ≤ 201) where
   pub low-sized : IsSized (one.lo *ℤ to_z w64 (of_z w64 written)) (10 ^ 36)
   unfolding EnclosesOnePaid
@@ -108,12 +108,12 @@ module _ {n : ℕ} (along : Along n) (t : ℕ) (one : Ends) (is : EnclosesOnePai
       low high encloses narrow)
 
 -- where nothing is paid the value is 0
-pub nothing-paid : {n : ℕ} (along : Along n) (t paid : ℕ) (r : Ends)
+pub nothing-paid : {n : ℕ} (along : TreeTask n) (t paid : ℕ) (r : Ends)
     → paid ≡ paid_at (of_one (pay_of along.pay.now)) along.group.now.start t → paid ≡ 0
     → r.lo ≡ pos 0 → r.hi ≡ pos 0 → EnclosesPayment along t r
 unfolding EnclosesPayment
 nothing-paid along t paid r is none low high ties =
-    let b = basis_of_along along ties in
+    let b = basis_of_tree_task along ties in
     let value = present_value_of_one b (of_one (pay_of along.pay.now)) along.group.now.start
     (has_bit along.group.now.alive) t in
     rw (← is, none, *ℤ-zero value) (record {

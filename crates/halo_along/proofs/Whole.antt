@@ -27,9 +27,9 @@ use Rattle.halo_life.specs.PlainGroup.{IsGroup}
 use Rattle.halo_compile.proofs.Living.{living-survive}
 use Rattle.halo_compile.proofs.Sums.{wider}
 use Rattle.halo_compile.proofs.Tasks.{count-lives, group-lives, some-survive}
-use Rattle.halo_along.specs.Along.{IsAlong, PaysAtOnce, basis_of_along}
+use Rattle.halo_along.specs.Along.{IsTreeTask, PaysAtOnce, basis_of_tree_task}
 use Rattle.halo_along.specs.Years.{EnclosesYears, present_value_of_years, present_whole}
-use Rattle.halo_along.specs.declared.along.Along.{Along}
+use Rattle.halo_along.specs.declared.tree_task.TreeTask.{TreeTask}
 use Rattle.halo_along.proofs.Counting.{count-has-room, greatest-some, no-mark, share-of-annuity, some-nodes}
 use Rattle.halo_along.proofs.Value.{value-by-years}
 
@@ -39,10 +39,10 @@ most-is Insurance annual m = absurd (annual refl)
 most-is Due annual m = refl
 most-is Immediate annual m = refl
 
-module _ {n : ℕ} (along : Along n) (is : IsAlong along) (annual : along.pay.now.kind ≢ Insurance)
+module _ {n : ℕ} (along : TreeTask n) (is : IsTreeTask along) (annual : along.pay.now.kind ≢ Insurance)
     (group : IsGroup n along.group.now) (ties : Ties) where
   abbrev b : Basis
-  b = basis_of_along along ties
+  b = basis_of_tree_task along ties
 
   abbrev pay : PlainPay
   pay = pay_of along.pay.now
@@ -114,8 +114,8 @@ module _ {n : ℕ} (along : Along n) (is : IsAlong along) (annual : along.pay.no
       either
 
 -- with one order of the lives there is a denominator
-pub some-denominator : {n : ℕ} (along : Along n) → IsGroup n along.group.now → IsInterest along.interest.now
-    → 0 < denominator (basis_of_along along Declared) along.group.now.start (has_bit along.group.now.alive)
+pub some-denominator : {n : ℕ} (along : TreeTask n) → IsGroup n along.group.now → IsInterest along.interest.now
+    → 0 < denominator (basis_of_tree_task along Declared) along.group.now.start (has_bit along.group.now.alive)
 unfolding denominator
 some-denominator {n} along group interest =
     mul-pos one (mul-pos

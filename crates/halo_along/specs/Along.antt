@@ -23,10 +23,10 @@ use Rattle.halo_model.specs.Enclosed.{EnclosesOne}
 use Rattle.halo_model.specs.FromTables.{lives_of}
 use Rattle.halo_model.specs.Horizon.{horizon}
 use Rattle.halo_life.specs.PlainGroup.{PlainGroup, survivors_in}
-use Rattle.halo_along.specs.declared.along.Along.{Along}
+use Rattle.halo_along.specs.declared.tree_task.TreeTask.{TreeTask}
 
 -- a valid pay whose body is read once, on the lives of a group, with its horizon on them
-pub record IsAlong {n : ℕ} (along : Along n) : Type 0 where
+pub record IsTreeTask {n : ℕ} (along : TreeTask n) : Type 0 where
   pub valid : IsValidPay (pay_of along.pay.now)
   pub once : IsReadOnce (pay_of along.pay.now).body
   pub lives : NamesLivesBelow n (pay_of along.pay.now).body
@@ -35,8 +35,8 @@ pub record IsAlong {n : ℕ} (along : Along n) : Type 0 where
   pub horizon_in : along.horizon ≤ LAST_TIME
 
 -- its lives and its interest, with a rule for ties
-abbrev pub basis_of_along : {n : ℕ} → Along n → Ties → Basis
-basis_of_along along ties =
+abbrev pub basis_of_tree_task : {n : ℕ} → TreeTask n → Ties → Basis
+basis_of_tree_task along ties =
     basis_of along.group.now.file along.interest.now along.group.now.lives ties
 
 -- the lives of a set that there are of n have survivors at time t: each has a row at its age then
@@ -46,13 +46,13 @@ HaveSurvivorsAt n group t alive =
 
 -- i encloses the value at time t of the pay, with amount 1, where the lives of a set are alive, by
 -- either rule for ties
-unfoldable pub EnclosesAlong : {n : ℕ} → Along n → ℕ → ℕ → Ends → Type 0
+unfoldable pub EnclosesAlong : {n : ℕ} → TreeTask n → ℕ → ℕ → Ends → Type 0
 EnclosesAlong along t alive i = (ties : Ties) →
-    EnclosesOne (basis_of_along along ties) (pay_of along.pay.now) t (has_bit alive) i
+    EnclosesOne (basis_of_tree_task along ties) (pay_of along.pay.now) t (has_bit alive) i
 
 -- an annuity-due, level and without deferral, pays at time t: its body exists then with the lives
 -- of a set alive
-pub record PaysAtOnce {n : ℕ} (along : Along n) (t alive : ℕ) : Type 0 where
+pub record PaysAtOnce {n : ℕ} (along : TreeTask n) (t alive : ℕ) : Type 0 where
   pub due : along.pay.now.kind ≡ Due
   pub level : along.pay.now.vary ≡ Level
   pub at_once : along.pay.now.defer ≡ 0
@@ -63,7 +63,7 @@ abbrev pub PaysByItsBody : Pay → Type 0
 PaysByItsBody pay = pay.kind ≡ Insurance → (pay.mark ≡ None) × (pay.causes ≡ None)
 
 -- the most products of a valuation along the tree
-abbrev pub products_along : {n : ℕ} → Along n → ℕ
+abbrev pub products_along : {n : ℕ} → TreeTask n → ℕ
 products_along {n} along =
     let body = (pay_of along.pay.now).body in
     16 * (along.horizon + 1) * (lives_named n body + 1) * (nodes body + 1) ^ 2

@@ -14,12 +14,12 @@ use Rattle.halo_model.specs.Event.{ends}
 use Rattle.halo_model.specs.Expectation.{expected}
 use Rattle.halo_model.specs.Part.{leaving_part}
 use Rattle.halo_model.specs.Payment.{falls_on}
-use Rattle.halo_along.specs.Along.{basis_of_along}
+use Rattle.halo_along.specs.Along.{basis_of_tree_task}
 use Rattle.halo_along.specs.Insured.{insured_in}
 use Rattle.halo_along.specs.Leavings.{declared_rank, width_of_event, width_of_falling}
 use Rattle.halo_along.specs.Years.{EnclosesPresent}
-use Rattle.halo_along.specs.declared.along.Along.{Along}
-use Rattle.halo_along.specs.declared.payment.TheConstants.{MOST_PAID}
+use Rattle.halo_along.specs.declared.tree_task.TreeTask.{TreeTask}
+use Rattle.halo_compile.specs.declared.payment.TheConstants.{MOST_PAID}
 
 -- the value at T of 1 paid at the end of year k if a payment falls then on the end of the terms of
 -- k + 1 years
@@ -38,9 +38,9 @@ value_on_ends b pay T S years = int_sum_over (numbers_from T years) (value_on_en
 
 -- i encloses the value at the time of the group of 1 paid at the end of year k if a payment falls
 -- on the end of the terms that end then
-unfoldable pub EnclosesOneEnd : {n : ℕ} → Along n → ℕ → Ends → Type 0
+unfoldable pub EnclosesOneEnd : {n : ℕ} → TreeTask n → ℕ → Ends → Type 0
 EnclosesOneEnd along k i =
-    let b = basis_of_along along Declared in
+    let b = basis_of_tree_task along Declared in
     let start : ℕ = along.group.now.start in
     let living : ℕ → Bool = has_bit along.group.now.alive in
     EnclosesPresent b start living
@@ -48,9 +48,9 @@ EnclosesOneEnd along k i =
     (width_of_event along) 1 i
 
 -- of what an insurance of 1 pays then
-unfoldable pub EnclosesEnd : {n : ℕ} → Along n → ℕ → Ends → Type 0
+unfoldable pub EnclosesEnd : {n : ℕ} → TreeTask n → ℕ → Ends → Type 0
 EnclosesEnd along k i =
-    let b = basis_of_along along Declared in
+    let b = basis_of_tree_task along Declared in
     let start : ℕ = along.group.now.start in
     let living : ℕ → Bool = has_bit along.group.now.alive in
     EnclosesPresent b start living
@@ -58,9 +58,9 @@ EnclosesEnd along k i =
     (width_of_falling along) MOST_PAID i
 
 -- and of what it pays on the ends of terms in so many years from that time on
-unfoldable pub EnclosesEnds : {n : ℕ} → Along n → ℕ → Ends → Type 0
+unfoldable pub EnclosesEnds : {n : ℕ} → TreeTask n → ℕ → Ends → Type 0
 EnclosesEnds along years i =
-    let b = basis_of_along along Declared in
+    let b = basis_of_tree_task along Declared in
     let start : ℕ = along.group.now.start in
     let living : ℕ → Bool = has_bit along.group.now.alive in
     EnclosesPresent b start living
@@ -70,9 +70,9 @@ EnclosesEnds along years i =
 -- i encloses the value at the time of the group of what an insurance of 1 pays on the leaving of
 -- life a, no wider than the years to the horizon allow, and not wide at all for a life that the
 -- body does not name
-unfoldable pub EnclosesOnLife : {n : ℕ} → Along n → ℕ → Ends → Type 0
+unfoldable pub EnclosesOnLife : {n : ℕ} → TreeTask n → ℕ → Ends → Type 0
 EnclosesOnLife along a i =
-    let b = basis_of_along along Declared in
+    let b = basis_of_tree_task along Declared in
     let start : ℕ = along.group.now.start in
     let living : ℕ → Bool = has_bit along.group.now.alive in
     let named : ℕ = cond (names_life a (pay_of along.pay.now).body) 1 0 in
@@ -81,9 +81,9 @@ EnclosesOnLife along a i =
     (named * (along.horizon * width_of_falling along)) (along.horizon * MOST_PAID) i
 
 -- and on the leavings of the first so many lives
-unfoldable pub EnclosesOnLives : {n : ℕ} → Along n → ℕ → Ends → Type 0
+unfoldable pub EnclosesOnLives : {n : ℕ} → TreeTask n → ℕ → Ends → Type 0
 EnclosesOnLives along count i =
-    let b = basis_of_along along Declared in
+    let b = basis_of_tree_task along Declared in
     let start : ℕ = along.group.now.start in
     let living : ℕ → Bool = has_bit along.group.now.alive in
     EnclosesPresent b start living
@@ -94,8 +94,8 @@ EnclosesOnLives along count i =
 
 -- i encloses the value at the time of the group of the pay, with amount 1, where the lives of one
 -- year leave in the declared order
-abbrev pub EnclosesInOrder : {n : ℕ} → Along n → Ends → Type 0
+abbrev pub EnclosesInOrder : {n : ℕ} → TreeTask n → Ends → Type 0
 EnclosesInOrder along i =
     let group = along.group.now in
-    EnclosesOne (basis_of_along along Declared) (pay_of along.pay.now) group.start
+    EnclosesOne (basis_of_tree_task along Declared) (pay_of along.pay.now) group.start
     (has_bit group.alive) i

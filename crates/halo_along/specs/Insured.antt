@@ -11,10 +11,10 @@ use Rattle.halo_model.specs.ByYears.{year_part}
 use Rattle.halo_model.specs.Counts.{greatest_factor}
 use Rattle.halo_model.specs.Enclosed.{of_one}
 use Rattle.halo_model.specs.Payment.{payment}
-use Rattle.halo_along.specs.Along.{basis_of_along}
+use Rattle.halo_along.specs.Along.{basis_of_tree_task}
 use Rattle.halo_along.specs.Years.{present_whole, width_of_one}
-use Rattle.halo_along.specs.declared.along.Along.{Along}
-use Rattle.halo_along.specs.declared.payment.TheConstants.{MOST_PAID}
+use Rattle.halo_along.specs.declared.tree_task.TreeTask.{TreeTask}
+use Rattle.halo_compile.specs.declared.payment.TheConstants.{MOST_PAID}
 
 -- what an insurance pays for year k if its body fails then: nothing before the deferral
 abbrev pub insured_in : PlainPay → ℕ → ℕ
@@ -34,24 +34,24 @@ pub record EnclosesInsured
 
 -- how wide the value of a year may be: the values of 1 paid at its two ends if the body exists
 -- then, the discount factor of the year and the rounding of its product, times the factor
-abbrev pub insured_width : {n : ℕ} → Along n → ℕ
+abbrev pub insured_width : {n : ℕ} → TreeTask n → ℕ
 insured_width along =
     (2 * width_of_one along + 2) * greatest_factor along.pay.now.vary along.horizon
 
 -- i encloses the value at the time of the group of what an insurance of 1 pays for year k, by
 -- either rule for ties
-unfoldable pub EnclosesInsuredYear : {n : ℕ} → Along n → ℕ → Ends → Type 0
+unfoldable pub EnclosesInsuredYear : {n : ℕ} → TreeTask n → ℕ → Ends → Type 0
 EnclosesInsuredYear along k i = (ties : Ties) →
-    let b = basis_of_along along ties in
+    let b = basis_of_tree_task along ties in
     let start : ℕ = along.group.now.start in
     let living : ℕ → Bool = has_bit along.group.now.alive in
     EnclosesInsured b start living (year_part b (of_one (pay_of along.pay.now)) start living k)
     (insured_width along) MOST_PAID i
 
 -- and of what it pays for so many years from that time on
-unfoldable pub EnclosesInsuredYears : {n : ℕ} → Along n → ℕ → Ends → Type 0
+unfoldable pub EnclosesInsuredYears : {n : ℕ} → TreeTask n → ℕ → Ends → Type 0
 EnclosesInsuredYears along years i = (ties : Ties) →
-    let b = basis_of_along along ties in
+    let b = basis_of_tree_task along ties in
     let start : ℕ = along.group.now.start in
     let living : ℕ → Bool = has_bit along.group.now.alive in
     EnclosesInsured b start living

@@ -18,11 +18,11 @@ use Rattle.halo_model.specs.Independent.{started_of, survivors_of}
 use Rattle.halo_model.specs.Order.{rank_in}
 use Rattle.halo_life.specs.PlainGroup.{PlainGroup}
 use Rattle.halo_chance.specs.Enclosed.{entry_at}
-use Rattle.halo_along.specs.Along.{basis_of_along}
+use Rattle.halo_along.specs.Along.{basis_of_tree_task}
 use Rattle.halo_along.specs.Insured.{insured_in}
 use Rattle.halo_along.specs.Years.{EnclosesPresent}
-use Rattle.halo_along.specs.declared.along.Along.{Along}
-use Rattle.halo_along.specs.declared.payment.TheConstants.{MOST_PAID}
+use Rattle.halo_along.specs.declared.tree_task.TreeTask.{TreeTask}
+use Rattle.halo_compile.specs.declared.payment.TheConstants.{MOST_PAID}
 
 -- the rank of each of n lives in the declared order
 abbrev pub declared_rank : ℕ → ℕ → ℕ
@@ -59,18 +59,18 @@ value_on_leavings b pay T S a years =
 -- each year, the chance of a leaving by 1, each of the two chances of which a loss is the
 -- difference by 1 for each place of a life and for each node of the status on which the pay waits,
 -- and the roundings of two products
-abbrev pub width_of_event : {n : ℕ} → Along n → ℕ
+abbrev pub width_of_event : {n : ℕ} → TreeTask n → ℕ
 width_of_event along = 3 * along.horizon + 4 * nodes (pay_of along.pay.now).body + 7
 
 -- and that of what the insurance pays on it: times the greatest factor
-abbrev pub width_of_falling : {n : ℕ} → Along n → ℕ
+abbrev pub width_of_falling : {n : ℕ} → TreeTask n → ℕ
 width_of_falling along = width_of_event along * greatest_factor along.pay.now.vary along.horizon
 
 -- i encloses the value at the time of the group of 1 paid at the end of year k if a payment falls
 -- on the leaving of life a in it
-unfoldable pub EnclosesOneLeaving : {n : ℕ} → Along n → ℕ → ℕ → Ends → Type 0
+unfoldable pub EnclosesOneLeaving : {n : ℕ} → TreeTask n → ℕ → ℕ → Ends → Type 0
 EnclosesOneLeaving along a k i =
-    let b = basis_of_along along Declared in
+    let b = basis_of_tree_task along Declared in
     let start : ℕ = along.group.now.start in
     let living : ℕ → Bool = has_bit along.group.now.alive in
     EnclosesPresent b start living
@@ -78,9 +78,9 @@ EnclosesOneLeaving along a k i =
     (width_of_event along) 1 i
 
 -- of what an insurance of 1 pays then
-unfoldable pub EnclosesLeaving : {n : ℕ} → Along n → ℕ → ℕ → Ends → Type 0
+unfoldable pub EnclosesLeaving : {n : ℕ} → TreeTask n → ℕ → ℕ → Ends → Type 0
 EnclosesLeaving along a k i =
-    let b = basis_of_along along Declared in
+    let b = basis_of_tree_task along Declared in
     let start : ℕ = along.group.now.start in
     let living : ℕ → Bool = has_bit along.group.now.alive in
     EnclosesPresent b start living
@@ -88,9 +88,9 @@ EnclosesLeaving along a k i =
     (width_of_falling along) MOST_PAID i
 
 -- and of what it pays on the leaving of the life in so many years from that time on
-unfoldable pub EnclosesLeavings : {n : ℕ} → Along n → ℕ → ℕ → Ends → Type 0
+unfoldable pub EnclosesLeavings : {n : ℕ} → TreeTask n → ℕ → ℕ → Ends → Type 0
 EnclosesLeavings along a years i =
-    let b = basis_of_along along Declared in
+    let b = basis_of_tree_task along Declared in
     let start : ℕ = along.group.now.start in
     let living : ℕ → Bool = has_bit along.group.now.alive in
     EnclosesPresent b start living

@@ -1,3 +1,4 @@
+-- The definitions of values along the tree of a body.
 pub mod Along
 pub mod Contingent
 pub mod Insured

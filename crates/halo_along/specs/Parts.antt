@@ -13,8 +13,8 @@ use Rattle.halo_model.specs.Enclosed.{of_one}
 use Rattle.halo_model.specs.Order.{rank_in}
 use Rattle.halo_model.specs.Part.{end_part, leaving_part}
 use Rattle.halo_model.specs.Value.{denominator}
-use Rattle.halo_along.specs.Along.{basis_of_along}
-use Rattle.halo_along.specs.declared.along.Along.{Along}
+use Rattle.halo_along.specs.Along.{basis_of_tree_task}
+use Rattle.halo_along.specs.declared.tree_task.TreeTask.{TreeTask}
 
 -- what falls on the leaving of a life, added up over the orders taken
 abbrev pub worth_on_leaving : Basis → PlainPay → ℕ → (ℕ → Bool) → ℕ → ℤ
@@ -35,18 +35,18 @@ pub record EnclosesPartOfOne
   pub within : IsWithin i (pos 0) (pos (most_worth pay.kind (measures_of b pay) * fine))
 
 -- i encloses what falls on the leaving of a life, at the time of the group ..
-abbrev pub EnclosesWorthOnLife : {n : ℕ} → Along n → ℕ → Ends → Type 0
+abbrev pub EnclosesWorthOnLife : {n : ℕ} → TreeTask n → ℕ → Ends → Type 0
 EnclosesWorthOnLife along life i =
-    let b = basis_of_along along Declared in
+    let b = basis_of_tree_task along Declared in
     let pay : PlainPay = of_one (pay_of along.pay.now) in
     let start : ℕ = along.group.now.start in
     let living : ℕ → Bool = has_bit along.group.now.alive in
     EnclosesPartOfOne b pay start living (worth_on_leaving b pay start living life) i
 
 -- .. and what falls on the end of a term of so many years
-abbrev pub EnclosesWorthOnTerm : {n : ℕ} → Along n → ℕ → Ends → Type 0
+abbrev pub EnclosesWorthOnTerm : {n : ℕ} → TreeTask n → ℕ → Ends → Type 0
 EnclosesWorthOnTerm along years i =
-    let b = basis_of_along along Declared in
+    let b = basis_of_tree_task along Declared in
     let pay : PlainPay = of_one (pay_of along.pay.now) in
     let start : ℕ = along.group.now.start in
     let living : ℕ → Bool = has_bit along.group.now.alive in

@@ -16,9 +16,9 @@ use Rattle.halo_model.specs.Enclosed.{of_one}
 use Rattle.halo_model.specs.Outcome.{joint_survivors}
 use Rattle.halo_model.specs.Part.{existing_weight}
 use Rattle.halo_model.specs.Segment.{first_time}
-use Rattle.halo_along.specs.Along.{basis_of_along}
-use Rattle.halo_along.specs.declared.along.Along.{Along}
-use Rattle.halo_along.specs.declared.payment.TheConstants.{MOST_PAID}
+use Rattle.halo_along.specs.Along.{basis_of_tree_task}
+use Rattle.halo_along.specs.declared.tree_task.TreeTask.{TreeTask}
+use Rattle.halo_compile.specs.declared.payment.TheConstants.{MOST_PAID}
 
 -- in which parts present values at T are told, with the lives of S alive
 abbrev pub present_whole : Basis → ℕ → (ℕ → Bool) → ℕ
@@ -48,7 +48,7 @@ pub record EnclosesPresent
 
 -- i encloses the discount factor of the years from the time of the group to time t, at most 3 wide
 -- for each of them
-abbrev pub IsDiscount : {n : ℕ} → Along n → ℕ → Ends → Type 0
+abbrev pub IsDiscount : {n : ℕ} → TreeTask n → ℕ → Ends → Type 0
 IsDiscount along t i =
     let interest = along.interest.now in
     let start : ℕ = along.group.now.start in
@@ -57,18 +57,18 @@ IsDiscount along t i =
 -- how wide the value of 1 paid at a time up to the horizon may be: its discount factor by 3 for
 -- each year, its chance by 1 for each place of a life and for each node, and the rounding of their
 -- product
-abbrev pub width_of_one : {n : ℕ} → Along n → ℕ
+abbrev pub width_of_one : {n : ℕ} → TreeTask n → ℕ
 width_of_one along = 3 * along.horizon + 2 * nodes (pay_of along.pay.now).body + 1
 
 -- and that of a payment: times the greatest factor
-abbrev pub width_of_payment : {n : ℕ} → Along n → ℕ
+abbrev pub width_of_payment : {n : ℕ} → TreeTask n → ℕ
 width_of_payment along = width_of_one along * greatest_factor along.pay.now.vary along.horizon
 
 -- i encloses the value at the time of the group of 1 paid at time t if the body exists then, by
 -- either rule for ties
-unfoldable pub EnclosesOnePaid : {n : ℕ} → Along n → ℕ → Ends → Type 0
+unfoldable pub EnclosesOnePaid : {n : ℕ} → TreeTask n → ℕ → Ends → Type 0
 EnclosesOnePaid along t i = (ties : Ties) →
-    let b = basis_of_along along ties in
+    let b = basis_of_tree_task along ties in
     let start : ℕ = along.group.now.start in
     let living : ℕ → Bool = has_bit along.group.now.alive in
     EnclosesPresent b start living
@@ -76,18 +76,18 @@ EnclosesOnePaid along t i = (ties : Ties) →
     (width_of_one along) 1 i
 
 -- of what an annuity of 1 pays then
-unfoldable pub EnclosesPayment : {n : ℕ} → Along n → ℕ → Ends → Type 0
+unfoldable pub EnclosesPayment : {n : ℕ} → TreeTask n → ℕ → Ends → Type 0
 EnclosesPayment along t i = (ties : Ties) →
-    let b = basis_of_along along ties in
+    let b = basis_of_tree_task along ties in
     let start : ℕ = along.group.now.start in
     let living : ℕ → Bool = has_bit along.group.now.alive in
     EnclosesPresent b start living (present_value b (of_one (pay_of along.pay.now)) start living t)
     (width_of_payment along) MOST_PAID i
 
 -- and of what it pays in so many years from that time on
-unfoldable pub EnclosesYears : {n : ℕ} → Along n → ℕ → Ends → Type 0
+unfoldable pub EnclosesYears : {n : ℕ} → TreeTask n → ℕ → Ends → Type 0
 EnclosesYears along years i = (ties : Ties) →
-    let b = basis_of_along along ties in
+    let b = basis_of_tree_task along ties in
     let start : ℕ = along.group.now.start in
     let living : ℕ → Bool = has_bit along.group.now.alive in
     EnclosesPresent b start living

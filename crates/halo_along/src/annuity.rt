@@ -4,9 +4,9 @@ ghost use Rattle.halo_num.specs.Ends.{fine};
 ghost use Rattle.halo_status.specs.ValidPay.{HasValidVary};
 ghost use Rattle.halo_status.specs.declared.pay.Kind.TheVariants.{Insurance};
 ghost use Rattle.halo_model.specs.Counts.{greatest_factor};
-ghost use Rattle.halo_along.specs.Along.{EnclosesAlong, HaveSurvivorsAt, IsAlong, PaysAtOnce, products_along};
+ghost use Rattle.halo_along.specs.Along.{EnclosesAlong, HaveSurvivorsAt, IsTreeTask, PaysAtOnce, products_along};
 
-use crate::along::Along;
+use crate::tree_task::TreeTask;
 use crate::years::value_of_years;
 use halo_compile::{between, greatest_factor};
 use halo_interest::LAST_TIME;
@@ -24,12 +24,12 @@ use std::sync::ledger::Ledger;
 /// the body, m nodes and a horizon of H years the counter is raised by at most
 /// 16 (H + 1) (n + 1) (m + 1)^2.
 pub fn annuity_along<const N: usize, L: Ledger>(
-    along: &Along<N>,
+    along: &TreeTask<N>,
     t: u16,
     alive: u16,
     steps: &mut Steps<L>,
 ) -> Ival
-    requires along { IsAlong along.now }
+    requires along { IsTreeTask along.now }
     requires annuity { along.now.pay.now.kind ≢ Insurance }
     requires time { t ≤ LAST_TIME }
     requires alive { HaveSurvivorsAt N along.now.group.now t alive }
@@ -38,7 +38,7 @@ pub fn annuity_along<const N: usize, L: Ledger>(
     ensures cost { steps.new ≤ steps.old + products_along along.now }
 {
     let group: Group<N> = Group::new(along.group.tables(), along.group.lives(), t, alive);
-    let then = Along {
+    let then = TreeTask {
         pay: along.pay,
         group: &group,
         interest: along.interest,
@@ -48,8 +48,8 @@ pub fn annuity_along<const N: usize, L: Ledger>(
 }
 
 // The value of an annuity of 1 at the time of the group, with the lives alive that it says.
-fn annuity_at_start<const N: usize, L: Ledger>(along: &Along<N>, steps: &mut Steps<L>) -> Ival
-    requires along { IsAlong along.now }
+fn annuity_at_start<const N: usize, L: Ledger>(along: &TreeTask<N>, steps: &mut Steps<L>) -> Ival
+    requires along { IsTreeTask along.now }
     requires annuity { along.now.pay.now.kind ≢ Insurance }
     ensures encloses { let group = along.now.group.now in
         EnclosesAlong along.now group.start group.alive result }
@@ -66,7 +66,7 @@ fn annuity_at_start<const N: usize, L: Ledger>(along: &Along<N>, steps: &mut Ste
 
 // The least that the annuity can be worth at the time of the group: 1 where it pays at once,
 // else 0.
-fn least_worth<const N: usize>(along: &Along<N>) -> u64
+fn least_worth<const N: usize>(along: &TreeTask<N>) -> u64
     ensures at_once { let group = along.now.group.now in
         PaysAtOnce along.now group.start group.alive → result ≡ 1 }
     ensures one { let group = along.now.group.now in
@@ -76,7 +76,7 @@ fn least_worth<const N: usize>(along: &Along<N>) -> u64
 }
 
 // Whether it pays 1 at the time of the group.
-fn pays_at_once<const N: usize>(along: &Along<N>) -> bool
+fn pays_at_once<const N: usize>(along: &TreeTask<N>) -> bool
     ensures { let group = along.now.group.now in
         IsTrue result ↔ PaysAtOnce along.now group.start group.alive }
 {
@@ -90,7 +90,7 @@ fn pays_at_once<const N: usize>(along: &Along<N>) -> bool
 }
 
 // The most that the annuity can be worth.
-fn most_worth<const N: usize>(along: &Along<N>) -> u64
+fn most_worth<const N: usize>(along: &TreeTask<N>) -> u64
     requires vary { HasValidVary along.now.pay.now.vary }
     requires few { along.now.horizon ≤ LAST_TIME }
     ensures value { let horizon = along.now.horizon in

@@ -1,11 +1,11 @@
 // The value of a pay of any kind along the tree of its body.
 ghost use Rattle.std.specs.Prelude.{◌+◌, ◌≤◌, pos, ◌≤ℤ◌};
 ghost use Rattle.halo_num.specs.Ends.{fine};
-ghost use Rattle.halo_along.specs.Along.{EnclosesAlong, HaveSurvivorsAt, IsAlong, PaysAtOnce, PaysByItsBody, products_along};
+ghost use Rattle.halo_along.specs.Along.{EnclosesAlong, HaveSurvivorsAt, IsTreeTask, PaysAtOnce, PaysByItsBody, products_along};
 
-use crate::along::Along;
 use crate::annuity::annuity_along;
 use crate::insurance::insurance_along;
+use crate::tree_task::TreeTask;
 use halo_interest::LAST_TIME;
 use halo_num::{Ival, Steps};
 use halo_status::Kind;
@@ -19,12 +19,12 @@ use std::sync::ledger::Ledger;
 /// to the most that the pay can be worth. Where an annuity-due, level and without deferral, pays at
 /// `t`, it is at least 1.
 pub fn value_along<const N: usize, L: Ledger>(
-    along: &Along<N>,
+    along: &TreeTask<N>,
     t: u16,
     alive: u16,
     steps: &mut Steps<L>,
 ) -> Ival
-    requires along { IsAlong along.now }
+    requires along { IsTreeTask along.now }
     requires by_body { PaysByItsBody along.now.pay.now }
     requires time { t ≤ LAST_TIME }
     requires alive { HaveSurvivorsAt N along.now.group.now t alive }

@@ -8,12 +8,12 @@ ghost use Rattle.halo_status.specs.declared.pay.Kind.TheVariants.{Insurance};
 ghost use Rattle.halo_model.specs.Counts.{lives_named};
 ghost use Rattle.halo_model.specs.SetValue.{can_fall_on_life};
 ghost use Rattle.halo_life.specs.Lists.{nothing};
-ghost use Rattle.halo_along.specs.Along.{IsAlong, products_along};
+ghost use Rattle.halo_along.specs.Along.{IsTreeTask, products_along};
 ghost use Rattle.halo_along.specs.Contingent.{EnclosesInOrder, EnclosesOnLife, EnclosesOnLives};
 
-use crate::along::Along;
 use crate::ending::value_of_ends;
 use crate::leaving::value_of_leavings;
+use crate::tree_task::TreeTask;
 use halo_compile::{between, failing_lives, greatest_factor};
 use halo_num::{Ival, Steps};
 use halo_sums::has_bit;
@@ -26,8 +26,11 @@ use std::sync::ledger::Ledger;
 ///
 /// It is no wider than its count, and from 0 to the most that it can be worth. The counter is
 /// raised by at most 16(H+1)(n+1)(m+1)², for the horizon H and the n lives and m nodes of the body.
-pub fn contingent_along<const N: usize, L: Ledger>(along: &Along<N>, steps: &mut Steps<L>) -> Ival
-    requires along { IsAlong along.now }
+pub fn contingent_along<const N: usize, L: Ledger>(
+    along: &TreeTask<N>,
+    steps: &mut Steps<L>,
+) -> Ival
+    requires along { IsTreeTask along.now }
     requires insurance { along.now.pay.now.kind ≡ Insurance }
     ensures value { EnclosesInOrder along.now result }
     ensures cost { steps.new ≤ steps.old + products_along along.now }
@@ -42,8 +45,8 @@ pub fn contingent_along<const N: usize, L: Ledger>(along: &Along<N>, steps: &mut
 }
 
 // The value at the time of the group of what the insurance pays on the leavings of all lives.
-fn value_of_lives<const N: usize, L: Ledger>(along: &Along<N>, steps: &mut Steps<L>) -> Ival
-    requires along { IsAlong along.now }
+fn value_of_lives<const N: usize, L: Ledger>(along: &TreeTask<N>, steps: &mut Steps<L>) -> Ival
+    requires along { IsTreeTask along.now }
     requires insurance { along.now.pay.now.kind ≡ Insurance }
     ensures lives { EnclosesOnLives along.now N result }
     ensures cost { let body = (pay_of along.now.pay.now).body in
@@ -62,11 +65,11 @@ fn value_of_lives<const N: usize, L: Ledger>(along: &Along<N>, steps: &mut Steps
 /// The value at the time of the group of what the insurance pays on the leaving of a life: nothing
 /// where the life is not alive then, or where no payment can fall on its leaving.
 pub(crate) fn value_of_life<const N: usize, L: Ledger>(
-    along: &Along<N>,
+    along: &TreeTask<N>,
     life: u8,
     steps: &mut Steps<L>,
 ) -> Ival
-    requires along { IsAlong along.now }
+    requires along { IsTreeTask along.now }
     requires insurance { along.now.pay.now.kind ≡ Insurance }
     requires life { life < N }
     ensures life { EnclosesOnLife along.now life result }

@@ -9,9 +9,9 @@ ghost use Rattle.halo_status.specs.ValidPay.{HasLength, HasRank, IsValidPay};
 ghost use Rattle.halo_status.specs.declared.pay.Kind.TheVariants.{Insurance};
 ghost use Rattle.halo_table.specs.DecrementTable.{HasRow};
 ghost use Rattle.halo_model.specs.Horizon.{HasShortTerms};
-ghost use Rattle.halo_along.specs.Along.{IsAlong};
+ghost use Rattle.halo_along.specs.Along.{IsTreeTask};
 
-use crate::{Along, contingent_along, on_life_along, on_term_along};
+use crate::{TreeTask, contingent_along, on_life_along, on_term_along};
 use halo_interest::{Interest, LAST_TIME};
 use halo_life::Group;
 use halo_model::horizon;
@@ -127,7 +127,8 @@ fn insurance_on(rt: &impl Abort, alloc: Global, causes: Option<u8>, body: Body) 
     })
 }
 
-// An insurance of 1 on both lives that pays on the failure of one of them at a rank, by some causes.
+// An insurance of 1 on both lives that pays on the failure of one of them at a rank, by some
+// causes.
 #[tactic(auto, using(halo_status::proofs::Shapes::shapes))]
 fn insurance_at(
     rt: &impl Abort,
@@ -153,8 +154,13 @@ fn insurance_at(
 }
 
 // What is asked of an insurance along its tree.
-fn answer<L: Ledger>(rt: &impl Abort, along: &Along<2>, asked: Asked, steps: &mut Steps<L>) -> Ival
-    requires along { IsAlong along.now }
+fn answer<L: Ledger>(
+    rt: &impl Abort,
+    along: &TreeTask<2>,
+    asked: Asked,
+    steps: &mut Steps<L>,
+) -> Ival
+    requires along { IsTreeTask along.now }
     requires insurance { along.now.pay.now.kind ≡ Insurance }
 {
     match asked {
@@ -189,7 +195,7 @@ fn value_of<L: Ledger>(
     let horizon = horizon(&pay.body, tables, &lives);
     let group = Group::<2>::new(tables, &lives, 0, 0);
     let then = group.at(case.start);
-    let along = Along {
+    let along = TreeTask {
         pay,
         group: &then,
         interest,

@@ -4,26 +4,26 @@ ghost use Rattle.halo_status.specs.Nodes.{nodes};
 ghost use Rattle.halo_status.specs.Pay.{pay_of};
 ghost use Rattle.halo_status.specs.declared.pay.Kind.TheVariants.{Insurance};
 ghost use Rattle.halo_model.specs.SetValue.{can_fall_on_term};
-ghost use Rattle.halo_along.specs.Along.{IsAlong};
+ghost use Rattle.halo_along.specs.Along.{IsTreeTask};
 ghost use Rattle.halo_along.specs.Contingent.{EnclosesEnd, EnclosesEnds, EnclosesOneEnd};
 ghost use Rattle.halo_along.specs.Years.{IsDiscount};
 
-use crate::along::Along;
 use crate::insured_years::insured_in;
 use crate::lives::survivals;
+use crate::tree_task::TreeTask;
 use halo_chance::end_loss;
 use halo_compile::can_fall_on_term;
 use halo_interest::LAST_TIME;
 use halo_num::{Ival, ONE_IN_FINE_UNITS, Steps};
 use std::sync::ledger::Ledger;
 
-/// The value at the time of the group of what an insurance of 1 pays on the ends of its terms in the
-/// years from then to its horizon: of all terms of one length at once.
+/// The value at the time of the group of what an insurance of 1 pays on the ends of its terms in
+/// the years from then to its horizon: of all terms of one length at once.
 pub(crate) fn value_of_ends<const N: usize, L: Ledger>(
-    along: &Along<N>,
+    along: &TreeTask<N>,
     steps: &mut Steps<L>,
 ) -> Ival
-    requires along { IsAlong along.now }
+    requires along { IsTreeTask along.now }
     requires insurance { along.now.pay.now.kind ≡ Insurance }
     ensures ends { let years = along.now.horizon - along.now.group.now.start in
         EnclosesEnds along.now years result }
@@ -43,12 +43,12 @@ pub(crate) fn value_of_ends<const N: usize, L: Ledger>(
 /// The value at the time of the group of what an insurance of 1 pays on the end of the terms that
 /// end with a year, by the discount factor of the years to its end.
 pub(crate) fn value_of_end<const N: usize, L: Ledger>(
-    along: &Along<N>,
+    along: &TreeTask<N>,
     year: u16,
     discount: Ival,
     steps: &mut Steps<L>,
 ) -> Ival
-    requires along { IsAlong along.now }
+    requires along { IsTreeTask along.now }
     requires insurance { along.now.pay.now.kind ≡ Insurance }
     requires from { along.now.group.now.start ≤ year }
     requires before { year < along.now.horizon }
@@ -74,12 +74,12 @@ pub(crate) fn value_of_end<const N: usize, L: Ledger>(
 // end of its terms: the discount factor times what the status on which the pay waits loses with
 // them.
 fn value_of_one<const N: usize, L: Ledger>(
-    along: &Along<N>,
+    along: &TreeTask<N>,
     year: u16,
     discount: Ival,
     steps: &mut Steps<L>,
 ) -> Ival
-    requires along { IsAlong along.now }
+    requires along { IsTreeTask along.now }
     requires insurance { along.now.pay.now.kind ≡ Insurance }
     requires falls { can_fall_on_term (pay_of along.now.pay.now) (year + 1) ≡ true }
     requires deferred { along.now.pay.now.defer ≤ year }
@@ -100,7 +100,7 @@ fn value_of_one<const N: usize, L: Ledger>(
 
 /// The discount factor of the years from the time of the group to time `t`.
 pub(crate) fn discount_to<const N: usize, L: Ledger>(
-    along: &Along<N>,
+    along: &TreeTask<N>,
     t: u16,
     steps: &mut Steps<L>,
 ) -> Ival

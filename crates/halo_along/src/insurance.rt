@@ -1,10 +1,10 @@
 // The value of an insurance along the tree of its body.
 ghost use Rattle.std.specs.Prelude.{◌≡◌, ◌+◌, ◌≤◌, None};
 ghost use Rattle.halo_status.specs.declared.pay.Kind.TheVariants.{Insurance};
-ghost use Rattle.halo_along.specs.Along.{EnclosesAlong, HaveSurvivorsAt, IsAlong, products_along};
+ghost use Rattle.halo_along.specs.Along.{EnclosesAlong, HaveSurvivorsAt, IsTreeTask, products_along};
 
-use crate::along::Along;
 use crate::insured_years::value_of_years;
+use crate::tree_task::TreeTask;
 use halo_compile::{between, greatest_factor};
 use halo_interest::LAST_TIME;
 use halo_life::Group;
@@ -19,12 +19,12 @@ use std::sync::ledger::Ledger;
 /// to the most that it can be worth. With n lives named by the body, m nodes and a horizon of H
 /// years the counter is raised by at most 16 (H + 1) (n + 1) (m + 1)^2.
 pub fn insurance_along<const N: usize, L: Ledger>(
-    along: &Along<N>,
+    along: &TreeTask<N>,
     t: u16,
     alive: u16,
     steps: &mut Steps<L>,
 ) -> Ival
-    requires along { IsAlong along.now }
+    requires along { IsTreeTask along.now }
     requires insurance { along.now.pay.now.kind ≡ Insurance }
     requires unmarked { along.now.pay.now.mark ≡ None }
     requires any_cause { along.now.pay.now.causes ≡ None }
@@ -34,7 +34,7 @@ pub fn insurance_along<const N: usize, L: Ledger>(
     ensures cost { steps.new ≤ steps.old + products_along along.now }
 {
     let group: Group<N> = Group::new(along.group.tables(), along.group.lives(), t, alive);
-    let then = Along {
+    let then = TreeTask {
         pay: along.pay,
         group: &group,
         interest: along.interest,
@@ -44,8 +44,8 @@ pub fn insurance_along<const N: usize, L: Ledger>(
 }
 
 // The value of such an insurance at the time of the group, with the lives alive that it says.
-fn insurance_at_start<const N: usize, L: Ledger>(along: &Along<N>, steps: &mut Steps<L>) -> Ival
-    requires along { IsAlong along.now }
+fn insurance_at_start<const N: usize, L: Ledger>(along: &TreeTask<N>, steps: &mut Steps<L>) -> Ival
+    requires along { IsTreeTask along.now }
     requires insurance { along.now.pay.now.kind ≡ Insurance }
     requires unmarked { along.now.pay.now.mark ≡ None }
     requires any_cause { along.now.pay.now.causes ≡ None }

@@ -10,7 +10,7 @@ ghost use Rattle.halo_status.specs.declared.pay.Kind.TheVariants.{Insurance};
 ghost use Rattle.halo_table.specs.DecrementTable.{HasRow};
 ghost use Rattle.halo_model.specs.Horizon.{HasShortTerms};
 
-use crate::{Along, insurance_along};
+use crate::{TreeTask, insurance_along};
 use halo_interest::{Interest, LAST_TIME};
 use halo_life::Group;
 use halo_model::horizon;
@@ -123,7 +123,7 @@ fn value_of<L: Ledger>(
     let lives = [LIFE, LIFE];
     let horizon = horizon(&pay.body, tables, &lives);
     let group = Group::<2>::new(tables, &lives, 0, 0);
-    let along = Along {
+    let along = TreeTask {
         pay: &pay,
         group: &group,
         interest,

@@ -5,11 +5,11 @@ ghost use Rattle.halo_status.specs.Pay.{pay_of};
 ghost use Rattle.halo_status.specs.ValidPay.{HasValidVary};
 ghost use Rattle.halo_status.specs.declared.pay.Kind.TheVariants.{Insurance};
 ghost use Rattle.halo_model.specs.Enclosed.{of_one};
-ghost use Rattle.halo_along.specs.Along.{IsAlong};
+ghost use Rattle.halo_along.specs.Along.{IsTreeTask};
 ghost use Rattle.halo_along.specs.Insured.{EnclosesInsuredYear, EnclosesInsuredYears, insured_in};
 ghost use Rattle.halo_along.specs.Years.{EnclosesOnePaid};
 
-use crate::along::Along;
+use crate::tree_task::TreeTask;
 use crate::years::value_of_one;
 use halo_compile::{MOST_PAID, factor};
 use halo_interest::LAST_TIME;
@@ -20,10 +20,10 @@ use std::sync::ledger::Ledger;
 /// The value at the time of the group of what an insurance of 1 pays for the years from then to its
 /// horizon, if its body fails in them.
 pub(crate) fn value_of_years<const N: usize, L: Ledger>(
-    along: &Along<N>,
+    along: &TreeTask<N>,
     steps: &mut Steps<L>,
 ) -> Ival
-    requires along { IsAlong along.now }
+    requires along { IsTreeTask along.now }
     requires insurance { along.now.pay.now.kind ≡ Insurance }
     requires unmarked { along.now.pay.now.mark ≡ None }
     ensures years { let years = along.now.horizon - along.now.group.now.start in
@@ -53,13 +53,13 @@ pub(crate) fn value_of_years<const N: usize, L: Ledger>(
 // at its two ends if the body exists then: at the end of the year it pays where the body existed at
 // its start, less where it still exists.
 fn value_of_year<const N: usize, L: Ledger>(
-    along: &Along<N>,
+    along: &TreeTask<N>,
     year: u16,
     existing: Ival,
     next: Ival,
     steps: &mut Steps<L>,
 ) -> Ival
-    requires along { IsAlong along.now }
+    requires along { IsTreeTask along.now }
     requires from { along.now.group.now.start ≤ year }
     requires before { year < along.now.horizon }
     requires existing { EnclosesOnePaid along.now year existing }

@@ -7,12 +7,12 @@ ghost use Rattle.halo_status.specs.Pay.{pay_of};
 ghost use Rattle.halo_status.specs.declared.pay.Kind.TheVariants.{Insurance};
 ghost use Rattle.halo_model.specs.SetValue.{can_fall_on_life};
 ghost use Rattle.halo_chance.specs.Enclosed.{EachIsChance};
-ghost use Rattle.halo_along.specs.Along.{IsAlong};
+ghost use Rattle.halo_along.specs.Along.{IsTreeTask};
 ghost use Rattle.halo_along.specs.Leavings.{EnclosesLeaving, EnclosesLeavings, EnclosesOneLeaving, EncloseLookedAt};
 ghost use Rattle.halo_along.specs.Years.{IsDiscount};
 
-use crate::along::Along;
 use crate::insured_years::insured_in;
+use crate::tree_task::TreeTask;
 use halo_chance::pay_loss;
 use halo_interest::LAST_TIME;
 use halo_life::{Group, MOST_LIVES};
@@ -24,11 +24,11 @@ use std::sync::ledger::Ledger;
 /// is alive then, in the years from then to its horizon. A payment has to be able to fall on that
 /// leaving.
 pub(crate) fn value_of_leavings<const N: usize, L: Ledger>(
-    along: &Along<N>,
+    along: &TreeTask<N>,
     life: u8,
     steps: &mut Steps<L>,
 ) -> Ival
-    requires along { IsAlong along.now }
+    requires along { IsTreeTask along.now }
     requires insurance { along.now.pay.now.kind ≡ Insurance }
     requires life { life < N }
     requires falls { can_fall_on_life (pay_of along.now.pay.now) life ≡ true }
@@ -51,13 +51,13 @@ pub(crate) fn value_of_leavings<const N: usize, L: Ledger>(
 // The value at the time of the group of what the insurance pays on the leaving of the life in a
 // year, by the discount factor of the years to its end.
 fn value_of_leaving<const N: usize, L: Ledger>(
-    along: &Along<N>,
+    along: &TreeTask<N>,
     life: u8,
     year: u16,
     discount: Ival,
     steps: &mut Steps<L>,
 ) -> Ival
-    requires along { IsAlong along.now }
+    requires along { IsTreeTask along.now }
     requires insurance { along.now.pay.now.kind ≡ Insurance }
     requires life { life < N }
     requires falls { can_fall_on_life (pay_of along.now.pay.now) life ≡ true }
@@ -83,13 +83,13 @@ fn value_of_leaving<const N: usize, L: Ledger>(
 // leaving of the life in it: the discount factor times the chance that the life leaves times what
 // the status on which the pay waits loses with it.
 fn value_of_one<const N: usize, L: Ledger>(
-    along: &Along<N>,
+    along: &TreeTask<N>,
     life: u8,
     year: u16,
     discount: Ival,
     steps: &mut Steps<L>,
 ) -> Ival
-    requires along { IsAlong along.now }
+    requires along { IsTreeTask along.now }
     requires insurance { along.now.pay.now.kind ≡ Insurance }
     requires life { life < N }
     requires falls { can_fall_on_life (pay_of along.now.pay.now) life ≡ true }

@@ -10,7 +10,6 @@
 //! status on which it waits loses with them.
 #![tactic(auto)]
 
-mod along;
 mod annuity;
 mod by_kind;
 mod contingent;
@@ -26,11 +25,12 @@ mod lives;
 mod parts;
 #[cfg(test)]
 mod tests;
+mod tree_task;
 mod years;
 
-pub use along::Along;
 pub use annuity::annuity_along;
 pub use by_kind::value_along;
 pub use contingent::contingent_along;
 pub use insurance::insurance_along;
 pub use parts::{on_life_along, on_term_along};
+pub use tree_task::TreeTask;

@@ -6,12 +6,12 @@ ghost use Rattle.halo_status.specs.Pay.{pay_of};
 ghost use Rattle.halo_status.specs.declared.pay.Kind.TheVariants.{Insurance};
 ghost use Rattle.halo_model.specs.SetValue.{can_fall_on_life, can_fall_on_term};
 ghost use Rattle.halo_life.specs.Lists.{nothing};
-ghost use Rattle.halo_along.specs.Along.{IsAlong, products_along};
+ghost use Rattle.halo_along.specs.Along.{IsTreeTask, products_along};
 ghost use Rattle.halo_along.specs.Parts.{EnclosesWorthOnLife, EnclosesWorthOnTerm};
 
-use crate::along::Along;
 use crate::contingent::value_of_life;
 use crate::ending::{discount_to, value_of_end};
+use crate::tree_task::TreeTask;
 use halo_compile::{between, can_fall_on_term, greatest_factor};
 use halo_interest::LAST_TIME;
 use halo_num::{Ival, Steps};
@@ -24,11 +24,11 @@ use std::sync::ledger::Ledger;
 /// where no payment can fall on that leaving it is exactly 0. The counter is raised by at most
 /// 16(H+1)(n+1)(m+1)², for the horizon H and the n lives and m nodes of the body.
 pub fn on_life_along<const N: usize, L: Ledger>(
-    along: &Along<N>,
+    along: &TreeTask<N>,
     life: u8,
     steps: &mut Steps<L>,
 ) -> Ival
-    requires along { IsAlong along.now }
+    requires along { IsTreeTask along.now }
     requires insurance { along.now.pay.now.kind ≡ Insurance }
     requires life { life < N }
     ensures encloses { EnclosesWorthOnLife along.now life result }
@@ -46,11 +46,11 @@ pub fn on_life_along<const N: usize, L: Ledger>(
 /// What of the value of an insurance of 1 falls on the end of a term of `n` years: as
 /// `on_life_along`, and exactly 0 where no payment can fall on that end.
 pub fn on_term_along<const N: usize, L: Ledger>(
-    along: &Along<N>,
+    along: &TreeTask<N>,
     n: u16,
     steps: &mut Steps<L>,
 ) -> Ival
-    requires along { IsAlong along.now }
+    requires along { IsTreeTask along.now }
     requires insurance { along.now.pay.now.kind ≡ Insurance }
     requires some { 1 ≤ n }
     requires time { n ≤ LAST_TIME }

@@ -5,7 +5,7 @@ use halo_status::Pay;
 
 /// A pay whose body is read once, to be valued along its tree.
 #[derive(Clone, Copy)]
-pub struct Along<'a, const N: usize> {
+pub struct TreeTask<'a, const N: usize> {
     /// The pay. It is valued for an amount of 1, whatever its own amount.
     pub pay: &'a Pay,
     /// The lives of the contract.

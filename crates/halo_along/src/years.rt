@@ -5,11 +5,11 @@ ghost use Rattle.halo_status.specs.Pay.{pay_of};
 ghost use Rattle.halo_status.specs.declared.pay.Kind.TheVariants.{Insurance};
 ghost use Rattle.halo_model.specs.Coefficient.{view_of};
 ghost use Rattle.halo_model.specs.Segment.{first_time};
-ghost use Rattle.halo_along.specs.Along.{IsAlong};
+ghost use Rattle.halo_along.specs.Along.{IsTreeTask};
 ghost use Rattle.halo_along.specs.Years.{EnclosesOnePaid, EnclosesPayment, EnclosesYears, IsDiscount};
 
-use crate::along::Along;
 use crate::lives::survivals;
+use crate::tree_task::TreeTask;
 use halo_chance::chance;
 use halo_compile::paid_at;
 use halo_num::{Ival, ONE_IN_FINE_UNITS, Steps};
@@ -19,10 +19,10 @@ use std::sync::ledger::Ledger;
 /// The value at the time of the group of what an annuity of 1 pays from then to its horizon: at the
 /// beginning of each year, or at its end where it is immediate.
 pub(crate) fn value_of_years<const N: usize, L: Ledger>(
-    along: &Along<N>,
+    along: &TreeTask<N>,
     steps: &mut Steps<L>,
 ) -> Ival
-    requires along { IsAlong along.now }
+    requires along { IsTreeTask along.now }
     requires annuity { along.now.pay.now.kind ≢ Insurance }
     ensures years { EnclosesYears along.now (along.now.horizon - along.now.group.now.start) result }
     ensures cost { steps.new ≤ steps.old + (along.now.horizon - along.now.group.now.start)
@@ -41,13 +41,13 @@ pub(crate) fn value_of_years<const N: usize, L: Ledger>(
 // The value at the time of the group of what an annuity of 1 pays in a year, by the discount
 // factors of its beginning and its end.
 fn value_of_year<const N: usize, L: Ledger>(
-    along: &Along<N>,
+    along: &TreeTask<N>,
     year: u16,
     at_start: Ival,
     at_end: Ival,
     steps: &mut Steps<L>,
 ) -> Ival
-    requires along { IsAlong along.now }
+    requires along { IsTreeTask along.now }
     requires annuity { along.now.pay.now.kind ≢ Insurance }
     requires from { along.now.group.now.start ≤ year }
     requires year { year < along.now.horizon }
@@ -66,12 +66,12 @@ fn value_of_year<const N: usize, L: Ledger>(
 // The value at the time of the group of what an annuity of 1 pays at time `t`, by the discount
 // factor of the years to `t`.
 fn value_of_payment<const N: usize, L: Ledger>(
-    along: &Along<N>,
+    along: &TreeTask<N>,
     t: u16,
     discount: Ival,
     steps: &mut Steps<L>,
 ) -> Ival
-    requires along { IsAlong along.now }
+    requires along { IsTreeTask along.now }
     requires annuity { along.now.pay.now.kind ≢ Insurance }
     requires from { along.now.group.now.start ≤ t }
     requires to { t ≤ along.now.horizon }
@@ -90,12 +90,12 @@ fn value_of_payment<const N: usize, L: Ledger>(
 /// The value at the time of the group of 1 paid at time `t` if the body exists then: the discount
 /// factor times the chance along the tree.
 pub(crate) fn value_of_one<const N: usize, L: Ledger>(
-    along: &Along<N>,
+    along: &TreeTask<N>,
     t: u16,
     discount: Ival,
     steps: &mut Steps<L>,
 ) -> Ival
-    requires along { IsAlong along.now }
+    requires along { IsTreeTask along.now }
     requires unmarked { along.now.pay.now.mark ≡ None }
     requires from { along.now.group.now.start ≤ t }
     requires to { t ≤ along.now.horizon }

@@ -6,13 +6,13 @@ ghost use Rattle.halo_status.specs.Naming.{NamesLivesBelow};
 ghost use Rattle.halo_status.specs.Pay.{pay_of};
 ghost use Rattle.halo_status.specs.ReadOnce.{IsReadOnce};
 ghost use Rattle.halo_status.specs.StatusTree.{tree_of};
-ghost use Rattle.halo_along.specs.Along.{IsAlong, PaysAtOnce, PaysByItsBody, basis_of_along};
+ghost use Rattle.halo_along.specs.Along.{IsTreeTask, PaysAtOnce, PaysByItsBody, basis_of_tree_task};
 ghost use Rattle.halo_value.specs.PayValues.{AreValuesOf};
 ghost use Rattle.halo_value.specs.Reading.{CanBeRead};
 
 use crate::Memory;
 use crate::pass::{ALL_LIVES, PayValues};
-use halo_along::{Along, value_along};
+use halo_along::{TreeTask, value_along};
 use halo_contract::ReserveLine;
 use halo_num::Steps;
 use halo_status::{Kind, Pay, Status};
@@ -55,15 +55,15 @@ fn is_cheaper(body: &Status, values: usize) -> bool
 /// least 1 then.
 pub fn values_along<const N: usize, L: Ledger>(
     alloc: Global,
-    along: &Along<N>,
+    along: &TreeTask<N>,
     reserves: &[ReserveLine],
     steps: &mut Steps<L>,
 ) -> Result<PayValues, Memory>
-    requires along { IsAlong along.now }
+    requires along { IsTreeTask along.now }
     requires by_body { PaysByItsBody along.now.pay.now }
     requires reserves { All (CanBeRead N along.now.group.now) reserves.now }
     ensures encloses { IfOk result (λ values.
-        let basis = basis_of_along along.now along.now.group.now.ties in
+        let basis = basis_of_tree_task along.now along.now.group.now.ties in
         AreValuesOf basis reserves.now (pay_of along.now.pay.now) values) }
     ensures one { IfOk result (λ values.
         PaysAtOnce along.now 0 ALL_LIVES → pos fine ≤ℤ values.start.lo) }

@@ -10,7 +10,7 @@ ghost use Rattle.halo_value.specs.Setting.{CanBeAsked, CanBeValued, basis_of_set
 use crate::Memory;
 use crate::along::{goes_along_the_tree, values_along};
 use crate::pass::{PayValues, pass};
-use halo_along::Along;
+use halo_along::TreeTask;
 use halo_compile::{Task, compile};
 use halo_contract::ReserveLine;
 use halo_interest::Interest;
@@ -52,7 +52,7 @@ pub fn values_of_pay<const N: usize, const M: usize, L: Ledger>(
     let group = setting.group;
     let horizon = horizon(&pay.body, group.tables(), group.lives());
     if goes_along_the_tree(pay, setting.reserves.len().saturating_add(1)) {
-        let along = Along {
+        let along = TreeTask {
             pay,
             group,
             interest: setting.interest,

@@ -9,7 +9,7 @@ use Rattle.halo_model.specs.SetValue.{can_fall_on_term}
 use Rattle.halo_compile.proofs.Clamped.{meets-above, meets-below}
 use Rattle.halo_model.specs.Enclosed.{of_one}
 use Rattle.halo_sums.specs.Masks.{has_bit}
-use Rattle.halo_along.specs.Along.{basis_of_along}
+use Rattle.halo_along.specs.Along.{basis_of_tree_task}
 use Rattle.halo_along.specs.Parts.{worth_on_end}
 use Rattle.halo_along.specs.Years.{IsDiscount}
 use Rattle.halo_along.proofs.Contingents.{one-term-products}
@@ -61,7 +61,7 @@ part : (g : Over) (c : After-from g) →
     let pay = of_one (pay_of along.pay.now) in
     let start = along.group.now.start in
     let living = has_bit along.group.now.alive in
-    let b = basis_of_along along Declared in
+    let b = basis_of_tree_task along Declared in
     IsPart b pay start living c.from.result (worth_on_end b pay start living c.args.n) c.value_of_end-part.result
 part g c =
     let along = c.args.along.now in

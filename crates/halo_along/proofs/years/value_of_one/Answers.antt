@@ -4,7 +4,7 @@ use Rattle.halo_status.specs.Pay.{pay_of}
 use Rattle.halo_contract.specs.declared.ties.Ties.{Ties}
 use Rattle.halo_contract.specs.declared.ties.Ties.TheVariants.{Declared}
 use Rattle.halo_model.specs.Enclosed.{of_one}
-use Rattle.halo_along.specs.Along.{basis_of_along}
+use Rattle.halo_along.specs.Along.{basis_of_tree_task}
 use Rattle.halo_along.specs.Years.{EnclosesOnePaid, EnclosesPresent, present_value_of_one, width_of_one}
 use Rattle.halo_along.proofs.OnePaid.{one-paid}
 use Rattle.halo_along.proofs.years.value_of_one.Given.{Over}
@@ -13,7 +13,7 @@ use Rattle.halo_along.proofs.years.value_of_one.Goals as goal
 
 one : (g : Over) (c : After-mul g) (ties : Ties) →
     let along = c.args.along.now in
-    let b = basis_of_along along ties in
+    let b = basis_of_tree_task along ties in
     let start = along.group.now.start in
     let living = has_bit along.group.now.alive in
     EnclosesPresent b start living (present_value_of_one b (of_one (pay_of along.pay.now)) start living c.args.t)

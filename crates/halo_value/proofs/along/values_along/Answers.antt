@@ -5,7 +5,7 @@ use Rattle.halo_sums.specs.Masks.{has_bit}
 use Rattle.halo_status.specs.Pay.{pay_of}
 use Rattle.halo_contract.specs.declared.contract.ReserveLine.{ReserveLine}
 use Rattle.halo_model.specs.Enclosed.{EnclosesOne}
-use Rattle.halo_along.specs.Along.{EnclosesAlong, basis_of_along}
+use Rattle.halo_along.specs.Along.{EnclosesAlong, basis_of_tree_task}
 use Rattle.halo_compile.proofs.Tasks.{count-lives}
 use Rattle.halo_value.specs.Reading.{reserve_at}
 use Rattle.halo_value.proofs.AllLives.{all-alive}
@@ -36,7 +36,7 @@ loop-reserve-preserved g c =
     let ties = along.group.now.ties in
     let next = take_more reserves c.loop-reserve.reserve-index (record { time = 0; alive = 0 }) c.loop-reserve-test.true in
     rw (next, c.in_ok-push.ensures.items) (all_zipped_more
-    (λ reserve value. EnclosesOne (basis_of_along along ties) (pay_of along.pay.now) reserve.time (has_bit reserve.alive)
+    (λ reserve value. EnclosesOne (basis_of_tree_task along ties) (pay_of along.pay.now) reserve.time (has_bit reserve.alive)
     value)
     (take c.loop-reserve.reserve-index reserves) c.loop-reserve.later.items
     (reserve_at reserves c.loop-reserve.reserve-index) c.value_along.result c.loop-reserve.invariant
@@ -53,7 +53,7 @@ returns-clause-encloses g c =
     = take_all c.loop-reserve.reserve-index c.args.reserves.now (omega (arith, c.loop-reserve-test.false)) in
     record {
       short = record { years = rw is.horizon_is at is.horizon_in; vary = is.valid.vary };
-      start = all-alive (basis_of_along along ties) (pay_of along.pay.now) c.value_along-start.result
+      start = all-alive (basis_of_tree_task along ties) (pay_of along.pay.now) c.value_along-start.result
           (omega (arith, count-lives along.group.now, group.count, group.few))
           (c.value_along-start.ensures.encloses ties);
       later = rw all at c.loop-reserve.invariant;
