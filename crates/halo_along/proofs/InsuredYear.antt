@@ -120,8 +120,8 @@ module _ {n : ℕ} (along : TreeTask n) where
       unfolding EnclosesOnePaid
       year-encloses now then ties =
           let turned = value-at-end b pay T S k from (omega (arith, before, is.horizon_in)) in
-          let whole-year = product (present_value_of_one b pay T S k) (pos (b.q k)) whole (b.p k + b.q k) (now ties).encloses
-          discount in
+          let whole-year = product (present_value_of_one b pay T S k) (pos (b.q k)) whole (b.p k + b.q k)
+          (now ties).encloses discount in
           let there : Encloses at_end value whole = encloses_reduced at_end value whole (b.p k + b.q k)
           (omega (arith, (in_force_is along.interest.now interest k).q_from)) (rw turned at whole-year) in
           rw (year-pays-fall b pay T S k from, ← is_paid)

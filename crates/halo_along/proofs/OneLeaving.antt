@@ -69,7 +69,8 @@ year-or-none causes (suc a) k (x ∷ lives) rule within = year-or-none causes a 
 -- each life of a group that is alive has survivors then
 pub some-started : (n : ℕ) (g : PlainGroup) → IsGroup n g → (i : ℕ) → i < n
     → 0 < started_of g.start (has_bit g.alive) (lives_of g.file g.lives) i
-some-started n g is i below = rw (started-is g.file g.start (has_bit g.alive) g.lives i (omega (arith, below, is.count)))
+some-started n g is i below =
+    rw (started-is g.file g.start (has_bit g.alive) g.lives i (omega (arith, below, is.count)))
     (at-least-one (has_bit g.alive i) _ (living-survive n g is i below))
   where
     at-least-one : (alive : Bool) (l : ℕ) → (alive ≡ true → 0 < l) → 0 < cond alive l 1

@@ -1,5 +1,5 @@
 -- What falls on one event of an insurance: its enclosures along the tree, within its count and its bounds.
-use Rattle.std.proofs.Common.{◌≡◌, ℕ, suc, ◌+◌, ◌*◌, ◌-◌, ◌^◌, ◌<◌, ◌≤◌, length, Bool, true, false, cond, ℤ, pos, negsuc, ◌+ℤ◌, ◌*ℤ◌, arith, refl, ap, subst, sym, ◌∙◌}
+use Rattle.std.proofs.Common.{◌≡◌, ℕ, suc, ◌*◌, ◌-◌, ◌<◌, ◌≤◌, length, Bool, true, false, cond, ℤ, pos, negsuc, ◌+ℤ◌, ◌*ℤ◌, arith, refl, ap, subst, sym, ◌∙◌}
 use Rattle.std.proofs.Math.IntN.{*ℤ-zero}
 use Rattle.std.proofs.lemmas.Int.{ints}
 use Rattle.std.proofs.Math.Nat.{mul-le-mul_right}
@@ -9,7 +9,6 @@ use Rattle.halo_num.specs.Ends.{Ends, HasWidth, IsWithin, fine}
 use Rattle.halo_num.specs.Enclosure.{Encloses}
 use Rattle.halo_num.proofs.Enclosures.{encloses_at}
 use Rattle.halo_status.specs.Naming.{names_life}
-use Rattle.halo_status.specs.Nodes.{nodes}
 use Rattle.halo_status.specs.Pay.{PlainPay, pay_of}
 use Rattle.halo_status.specs.declared.pay.Kind.TheVariants.{Insurance}
 use Rattle.halo_contract.specs.declared.ties.Ties.TheVariants.{Declared}
@@ -109,13 +108,14 @@ module _ {n : ℕ} (along : TreeTask n) where
         (λ causes deferred since. absurd (omega (arith, some, past, since))))) low high
 
     -- one on which a payment can fall ends by the horizon
-    pub falling-term-in : IsTreeTask along → can_fall_on_term (pay_of along.pay.now) years ≡ true → years ≤ along.horizon
+    pub falling-term-in : IsTreeTask along → can_fall_on_term (pay_of along.pay.now) years ≡ true
+        → years ≤ along.horizon
     falling-term-in is falls =
         let covers = (horizon-is-least b.lives pay.body (horizon b.lives pay.body)).0 (omega arith) in
         rw is.horizon_is (covers.each_term years (ending-named pay years falls))
 
-  module _ (is : IsTreeTask along) (group : IsGroup n along.group.now) (kind : along.pay.now.kind ≡ Insurance) (most : ℕ)
-      (is_most : most ≡ greatest_factor along.pay.now.vary along.horizon) where
+  module _ (is : IsTreeTask along) (group : IsGroup n along.group.now) (kind : along.pay.now.kind ≡ Insurance)
+      (most : ℕ) (is_most : most ≡ greatest_factor along.pay.now.vary along.horizon) where
     same-most : most_paid b pay ≡ most
     same-most =
         let once : 1 * greatest_factor along.pay.now.vary along.horizon ≡ most = omega (arith, is_most) in

@@ -27,7 +27,8 @@ loop-year-preserved g c =
       to = omega (arith, c.loop-year-test.true);
       discount = discount-more c.args.along.now c.loop-year.year c.loop-year.discount c.year.result
           c.mul-discount.result is.from is.discount
-          (record { encloses = year.encloses; narrow = year.narrow; within = year.within }) c.mul-discount.ensures.chance;
+          (record { encloses = year.encloses; narrow = year.narrow; within = year.within })
+          c.mul-discount.ensures.chance;
       cost = omega (arith, is.from, is.cost, c.mul-discount.ensures.cost);
     }
 
