@@ -3,7 +3,7 @@
 use Rattle.std.proofs.Common.{◌≡◌, ℕ, ◌+◌, ◌*◌, ◌-◌, ◌^◌, ◌≤◌, length, Bool, true, false, cond, ℤ, pos, neg_ℤ, ◌+ℤ◌, ◌*ℤ◌, arith, refl, ap, sym, ◌∙◌}
 use Rattle.std.proofs.lemmas.Int.{ints}
 use Rattle.std.proofs.lemmas.Nat.{mul-le}
-use Rattle.std.proofs.Math.Nat.{mul-le-mul_right, pow-le-pow_right, pow-succ', pow-zero}
+use Rattle.std.proofs.Math.Nat.{mul-le-mul_right, pow-succ', pow-zero}
 use Rattle.halo_sums.specs.Masks.{has_bit}
 use Rattle.halo_sums.specs.Sums.{int_sum_over, numbers_from}
 use Rattle.halo_num.specs.Ends.{Ends, HasWidth, IsWithin}
@@ -30,7 +30,7 @@ use Rattle.halo_along.specs.Leavings.{EnclosesLeavings, declared_rank, value_on_
 use Rattle.halo_along.specs.Years.{EnclosesPresent, present_whole}
 use Rattle.halo_along.specs.declared.tree_task.TreeTask.{TreeTask}
 use Rattle.halo_along.proofs.ByParts.{falling-named, gone-leavings, in-declared-order, leavings-to-horizon, silent-leavings}
-use Rattle.halo_along.proofs.Counting.{greatest-some, some-nodes}
+use Rattle.halo_along.proofs.Counting.{event-few, greatest-some, products-few, some-nodes}
 use Rattle.halo_along.proofs.InsuredWhole.{group-ends, share-some}
 use Rattle.halo_along.proofs.NamedLives.{named-most, named-next}
 use Rattle.halo_along.proofs.PresentSums.{both-encloses, in-greater-bounds, nothing-encloses, one-number-more, present-small}
@@ -84,19 +84,14 @@ falling-count-has-room m years few named some weighty shared = omega (arith, of_
 -- the products of all lives named and of the ends of terms are few enough
 pub contingent-products-few : (years horizon named m : ℕ) → years ≤ horizon
     → named * (horizon * (4 * (m + 1) ^ 2 + 3)) + years * (4 * (m + 1) ^ 2 + 3)
-    ≤ 16 * (horizon + 1) * (named + 1) * (m + 1) ^ 2
+    ≤ (named + 1) * (16 * (horizon + 1) * (m + 1) ^ 2)
 contingent-products-few years horizon named m few =
-    let square : ℕ = (m + 1) ^ 2 in
-    let some : (m + 1) ^ 0 ≤ square = pow-le-pow_right (omega arith) (omega arith) in
-    let a : years * (4 * square + 3) ≤ (horizon + 1) * (7 * square) =
-    mul-le years (4 * square + 3) (horizon + 1) (7 * square) (omega arith)
-    (omega (arith, some, pow-zero (m + 1))) in
-    let c : horizon * (4 * square + 3) ≤ (horizon + 1) * (7 * square) =
-    mul-le horizon (4 * square + 3) (horizon + 1) (7 * square) (omega arith)
-    (omega (arith, some, pow-zero (m + 1))) in
-    let d : named * (horizon * (4 * square + 3)) ≤ named * ((horizon + 1) * (7 * square)) =
-    mul-le named _ named _ (omega arith) c in
-    omega (arith, a, d)
+    let event : ℕ = 4 * (m + 1) ^ 2 + 3 in
+    let most : ℕ = 16 * (horizon + 1) * (m + 1) ^ 2 in
+    let of_life : horizon * event ≤ most = products-few horizon event horizon m (omega arith) (event-few m) in
+    let of_lives : named * (horizon * event) ≤ named * most = mul-le named _ named _ (omega arith) of_life in
+    let of_ends : years * event ≤ most = products-few years event horizon m (omega arith) (event-few m) in
+    omega (arith, of_lives, of_ends)
 
 shared : (k m c w : ℕ) → k ≡ m + c → k * w ≡ m * w + c * w
 shared k m c w e = rw e (omega arith)
@@ -123,21 +118,15 @@ one-share-more : (m w : ℕ) → (m + 1) * w ≡ m * w + w
 one-share-more m w = omega arith
 
 -- nor of one life, or of the end of one term with its discount factor, too many
-pub one-life-products : (named-here : Bool) (horizon named m : ℕ)
-    → cond named-here 1 0 * (horizon * (4 * (m + 1) ^ 2 + 3)) ≤ 16 * (horizon + 1) * (named + 1) * (m + 1) ^ 2
-one-life-products true horizon named m = omega (arith, contingent-products-few horizon horizon named m (omega arith))
-one-life-products false horizon named m = omega arith
+pub one-life-products : (named : Bool) (horizon m : ℕ)
+    → cond named 1 0 * (horizon * (4 * (m + 1) ^ 2 + 3)) ≤ 16 * (horizon + 1) * (m + 1) ^ 2
+one-life-products true horizon m = omega (arith, products-few horizon _ horizon m (omega arith) (event-few m))
+one-life-products false horizon m = omega arith
 
-pub one-term-products : (years horizon named m : ℕ) → years ≤ horizon
-    → years + (4 * (m + 1) ^ 2 + 2) ≤ 16 * (horizon + 1) * (named + 1) * (m + 1) ^ 2
-one-term-products years horizon named m few =
-    let square : ℕ = (m + 1) ^ 2 in
-    let some : (m + 1) ^ 0 ≤ square = pow-le-pow_right (omega arith) (omega arith) in
-    let one : 1 ≤ square = omega (arith, some, pow-zero (m + 1)) in
-    let a : horizon * 1 ≤ horizon * square = mul-le horizon 1 horizon square (omega arith) one in
-    let c : 1 * ((horizon + 1) * square) ≤ (named + 1) * ((horizon + 1) * square) =
-    mul-le-mul_right ((horizon + 1) * square) (omega arith) in
-    omega (arith, few, one, a, c)
+pub one-term-products : (years horizon m : ℕ) → years ≤ horizon
+    → years + (4 * (m + 1) ^ 2 + 2) ≤ 16 * (horizon + 1) * (m + 1) ^ 2
+one-term-products years horizon m few =
+    omega (arith, products-few (years + 1) (4 * (m + 1) ^ 2 + 3) horizon m (omega arith) (event-few m))
 
 module _ {n : ℕ} (along : TreeTask n) where
   abbrev b : Basis

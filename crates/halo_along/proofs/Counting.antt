@@ -127,18 +127,27 @@ count-has-room m years few some weighty alone =
         ≤ 6 * square * m.weight * (m.horizon + 1) * span * m.factor * 1
     room = omega arith
 
--- the products of some years of a horizon are few enough
-pub products-few : (years horizon named m : ℕ) → years ≤ horizon
-    → years * (2 * (m + 1) ^ 2 + 2) ≤ 16 * (horizon + 1) * (named + 1) * (m + 1) ^ 2
-products-few years horizon named m few =
-    let square : ℕ = (m + 1) ^ 2 in
-    let one : 1 ≤ m + 1 = omega arith in
-    let some : 1 ^ 2 ≤ square = pow-le-pow_left one 2 in
-    let a : years * (2 * square + 2) ≤ (horizon + 1) * (4 * square) =
-    mul-le years (2 * square + 2) (horizon + 1) (4 * square) (omega arith) (omega (arith, some)) in
-    let b : 1 * ((horizon + 1) * square) ≤ (named + 1) * ((horizon + 1) * square) =
-    mul-le-mul_right ((horizon + 1) * square) (omega arith) in
-    omega (arith, a, b)
+-- so many products for each of some years are within those of a valuation along a tree
+pub products-few : (years each horizon m : ℕ) → years ≤ horizon + 1 → each ≤ 16 * (m + 1) ^ 2
+    → years * each ≤ 16 * (horizon + 1) * (m + 1) ^ 2
+products-few years each horizon m few small =
+    omega (arith, mul-le years each (horizon + 1) (16 * (m + 1) ^ 2) few small)
+
+pub some-square : (m : ℕ) → 1 ≤ (m + 1) ^ 2
+some-square m = let some : 1 ^ 2 ≤ (m + 1) ^ 2 = pow-le-pow_left one 2 in omega (arith, some)
+  where
+    one : 1 ≤ m + 1
+    one = omega arith
+
+-- a year of an annuity, one of an insurance by its body, and one of an event
+pub year-few : (m : ℕ) → 2 * (m + 1) ^ 2 + 2 ≤ 16 * (m + 1) ^ 2
+year-few m = omega (arith, some-square m)
+
+pub insured-year-few : (m : ℕ) → 2 * (m + 1) ^ 2 + 3 ≤ 16 * (m + 1) ^ 2
+insured-year-few m = omega (arith, some-square m)
+
+pub event-few : (m : ℕ) → 4 * (m + 1) ^ 2 + 3 ≤ 16 * (m + 1) ^ 2
+event-few m = omega (arith, some-square m)
 
 -- the products of a year more: one for the discount factor, and those of its payment
 pub products-more : (old before now new square t start : ℕ) → start ≤ t

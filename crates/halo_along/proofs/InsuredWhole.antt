@@ -1,7 +1,7 @@
 -- What an insurance pays in the years to its horizon encloses its value, within its count and its bounds.
 use Rattle.std.proofs.Common.{◌≡◌, ℕ, ◌+◌, ◌*◌, ◌-◌, ◌^◌, ◌≤◌, List, [], ◌∷◌, length, Bool, None, pos, ◌*ℤ◌, arith, refl, ap, sym, ◌∙◌}
 use Rattle.std.specs.Prelude.{All}
-use Rattle.std.proofs.Math.Nat.{mul-le-mul_right, pow-le-pow_right, pow-succ', pow-zero}
+use Rattle.std.proofs.Math.Nat.{mul-le-mul_right, pow-succ', pow-zero}
 use Rattle.std.proofs.lemmas.Nat.{mul-le, pow_pos}
 use Rattle.std.proofs.lemmas.List.Elements.{All-from_get_or, All-get_or, All-head, All-tail}
 use Rattle.halo_sums.specs.Masks.{has_bit}
@@ -108,19 +108,6 @@ insured-count-has-room m years few some weighty shared = omega (arith, of_years,
         ≤ 6 * square * m.weight * (m.horizon + 1) * span * m.factor * m.share
     room = omega arith
 
--- the products of some years of a horizon are few enough
-pub insured-products-few : (years horizon named m : ℕ) → years ≤ horizon
-    → (years + 1) * (2 * (m + 1) ^ 2 + 3) ≤ 16 * (horizon + 1) * (named + 1) * (m + 1) ^ 2
-insured-products-few years horizon named m few =
-    let square : ℕ = (m + 1) ^ 2 in
-    let some : (m + 1) ^ 0 ≤ square = pow-le-pow_right (omega arith) (omega arith) in
-    let a : (years + 1) * (2 * square + 3) ≤ (horizon + 1) * (5 * square) =
-    mul-le (years + 1) (2 * square + 3) (horizon + 1) (5 * square) (omega arith)
-    (omega (arith, some, pow-zero (m + 1))) in
-    let b : 1 * ((horizon + 1) * square) ≤ (named + 1) * ((horizon + 1) * square) =
-    mul-le-mul_right ((horizon + 1) * square) (omega arith) in
-    omega (arith, a, b)
-
 pub most-is : (kind : Kind) → kind ≡ Insurance → (m : Measures) → most_worth kind m ≡ m.factor
 unfolding most_worth
 most-is kind e m = rw e refl
@@ -158,7 +145,8 @@ module _ {n : ℕ} (along : TreeTask n) (is : IsTreeTask along) (group : IsGroup
       let bound : 1 * greatest_factor along.pay.now.vary (horizon b.lives pay.body) ≡ most =
       omega (arith, e, ap (greatest_factor along.pay.now.vary) is.horizon_is) in
       rw (← bound)
-      (insurance-is-bounded b lives (group-ends n along.group.now group) (of_one pay) (unit-valid pay is.valid kind) start living)
+      (insurance-is-bounded b lives (group-ends n along.group.now group) (of_one pay) (unit-valid pay is.valid kind)
+      start living)
 
   pub most-of-insurance : most_worth pay.kind (measures_of b pay) ≡ greatest_factor along.pay.now.vary along.horizon
   most-of-insurance = most-is pay.kind kind (measures_of b pay)

@@ -1,3 +1,4 @@
+pub mod AmountOne
 pub mod Counting
 pub mod OnePaid
 pub mod Payments
@@ -13,6 +14,7 @@ pub mod LookedAt
 pub mod OneLeaving
 pub mod Waits
 pub mod PresentSums
+pub mod SameLives
 pub mod LeavingYears
 pub mod OneEnd
 pub mod EndYears

@@ -27,13 +27,14 @@ use Rattle.halo_life.specs.PlainGroup.{IsGroup}
 use Rattle.halo_compile.proofs.Living.{living-survive}
 use Rattle.halo_compile.proofs.Sums.{wider}
 use Rattle.halo_compile.proofs.Tasks.{count-lives, group-lives, some-survive}
-use Rattle.halo_along.specs.Along.{IsTreeTask, PaysAtOnce, basis_of_tree_task}
+use Rattle.halo_along.specs.Along.{IsTreeTask, basis_of_tree_task}
+use Rattle.halo_along.specs.AtOnce.{PaysAtOnce}
 use Rattle.halo_along.specs.Years.{EnclosesYears, present_value_of_years, present_whole}
 use Rattle.halo_along.specs.declared.tree_task.TreeTask.{TreeTask}
 use Rattle.halo_along.proofs.Counting.{count-has-room, greatest-some, no-mark, share-of-annuity, some-nodes}
 use Rattle.halo_along.proofs.Value.{value-by-years}
 
-most-is : (kind : Kind) → kind ≢ Insurance → (m : Measures) → most_worth kind m ≡ m.factor * (m.horizon + 1)
+pub most-is : (kind : Kind) → kind ≢ Insurance → (m : Measures) → most_worth kind m ≡ m.factor * (m.horizon + 1)
 unfolding most_worth
 most-is Insurance annual m = absurd (annual refl)
 most-is Due annual m = refl
@@ -101,10 +102,10 @@ module _ {n : ℕ} (along : TreeTask n) (is : IsTreeTask along) (annual : along.
       (annuity-is-bounded b lives (of_one pay) annual plain refl is.valid.lists (ranks-ask pay.body is.valid.ranks)
       start group.time living)
 
-  pub value-below : (least : ℕ) → ((least ≡ 1) × PaysAtOnce along start along.group.now.alive) ⊎ (least ≡ 0)
+  pub value-below : (least : ℕ) → ((least ≡ 1) × PaysAtOnce along.pay.now start along.group.now.alive) ⊎ (least ≡ 0)
       → least * denominator b start living ≤ numerator b (of_one pay) start living
   value-below least either = ⊎_elim
-      (λ (one : (least ≡ 1) × PaysAtOnce along start along.group.now.alive).
+      (λ (one : (least ≡ 1) × PaysAtOnce along.pay.now start along.group.now.alive).
       let now = one.1 in
       let d = due-is-worth-one b lives (of_one pay) now.due plain refl now.level now.at_once
       (λ i named. omega (arith, is.lives i named, count-lives along.group.now, group.count))

@@ -92,10 +92,8 @@ EnclosesOnLives along count i =
     (lives_named count (pay_of along.pay.now).body * (along.horizon * width_of_falling along))
     (count * (along.horizon * MOST_PAID)) i
 
--- i encloses the value at the time of the group of the pay, with amount 1, where the lives of one
--- year leave in the declared order
-abbrev pub EnclosesInOrder : {n : ℕ} → TreeTask n → Ends → Type 0
-EnclosesInOrder along i =
-    let group = along.group.now in
-    EnclosesOne (basis_of_tree_task along Declared) (pay_of along.pay.now) group.start
-    (has_bit group.alive) i
+-- i encloses the value at time t of the pay, with amount 1, where the lives of a set are alive and
+-- those of one year leave in the declared order
+abbrev pub EnclosesInOrder : {n : ℕ} → TreeTask n → ℕ → ℕ → Ends → Type 0
+EnclosesInOrder along t alive i =
+    EnclosesOne (basis_of_tree_task along Declared) (pay_of along.pay.now) t (has_bit alive) i

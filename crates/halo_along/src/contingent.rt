@@ -8,32 +8,57 @@ ghost use Rattle.halo_status.specs.declared.pay.Kind.TheVariants.{Insurance};
 ghost use Rattle.halo_model.specs.Counts.{lives_named};
 ghost use Rattle.halo_model.specs.SetValue.{can_fall_on_life};
 ghost use Rattle.halo_life.specs.Lists.{nothing};
-ghost use Rattle.halo_along.specs.Along.{IsTreeTask, products_along};
+ghost use Rattle.halo_along.specs.Along.{HaveSurvivorsAt, IsTreeTask, products_in_order};
 ghost use Rattle.halo_along.specs.Contingent.{EnclosesInOrder, EnclosesOnLife, EnclosesOnLives};
 
 use crate::ending::value_of_ends;
 use crate::leaving::value_of_leavings;
 use crate::tree_task::TreeTask;
 use halo_compile::{between, failing_lives, greatest_factor};
+use halo_interest::LAST_TIME;
+use halo_life::Group;
 use halo_num::{Ival, Steps};
 use halo_sums::has_bit;
 use std::sync::ledger::Ledger;
 
-/// The value at the time of the group, with the lives alive that it says, of an insurance of 1 that
-/// may have a mark, causes, or both: of what it pays on the leaving of each life and on the ends of
-/// its terms, where the lives of one year leave in the declared order. The rule for ties of the
-/// group is not looked at.
+/// The value at time `t` of an insurance of 1 that may have a mark, causes, or both, with the lives
+/// of a set alive, each of which has a row at its age then: of what it pays on the leaving of each
+/// life and on the ends of its terms, where the lives of one year leave in the declared order. The
+/// time and the set of the group, and its rule for ties, are not looked at.
 ///
-/// It is no wider than its count, and from 0 to the most that it can be worth. The counter is
-/// raised by at most 16(H+1)(n+1)(m+1)², for the horizon H and the n lives and m nodes of the body.
+/// It is no wider than its count, and from 0 to the most that it can be worth. With n lives named
+/// by the body, m nodes and a horizon of H years the counter is raised by at most
+/// 16 (H + 1) (n + 1) (m + 1)^2.
 pub fn contingent_along<const N: usize, L: Ledger>(
     along: &TreeTask<N>,
+    t: u16,
+    alive: u16,
     steps: &mut Steps<L>,
 ) -> Ival
     requires along { IsTreeTask along.now }
     requires insurance { along.now.pay.now.kind ≡ Insurance }
-    ensures value { EnclosesInOrder along.now result }
-    ensures cost { steps.new ≤ steps.old + products_along along.now }
+    requires time { t ≤ LAST_TIME }
+    requires alive { HaveSurvivorsAt N along.now.group.now t alive }
+    ensures encloses { EnclosesInOrder along.now t alive result }
+    ensures cost { steps.new ≤ steps.old + products_in_order along.now }
+{
+    let group: Group<N> = Group::new(along.group.tables(), along.group.lives(), t, alive);
+    let then = TreeTask {
+        pay: along.pay,
+        group: &group,
+        interest: along.interest,
+        horizon: along.horizon,
+    };
+    contingent_at_start(&then, steps)
+}
+
+// The value of such an insurance at the time of the group, with the lives alive that it says.
+fn contingent_at_start<const N: usize, L: Ledger>(along: &TreeTask<N>, steps: &mut Steps<L>) -> Ival
+    requires along { IsTreeTask along.now }
+    requires insurance { along.now.pay.now.kind ≡ Insurance }
+    ensures value { let group = along.now.group.now in
+        EnclosesInOrder along.now group.start group.alive result }
+    ensures cost { steps.new ≤ steps.old + products_in_order along.now }
 {
     // The proof sees here that the lives have rows, and that each year has a fraction.
     let _start = along.group.start();

@@ -1,23 +1,24 @@
-// Worked values of insurances with marks or causes along the tree, on two lives aged 60 in one
+// Worked values of insurances with marks or causes along the tree, on three lives aged 60 in one
 // table, with the interest 1/1.
-ghost use Rattle.std.specs.Prelude.{◌≡◌, ◌≤◌, ◌<◌, ◌∷◌, [], IfOk, length};
+ghost use Rattle.std.specs.Prelude.{◌≡◌, ◌<◌, IfOk};
 ghost use Rattle.halo_status.specs.Naming.{NamesLivesBelow};
-ghost use Rattle.halo_status.specs.Nodes.{AtEachNode, HasShortLists, IsLasting, nodes};
 ghost use Rattle.halo_status.specs.Pay.{pay_of};
-ghost use Rattle.halo_status.specs.StatusTree.{tree_of};
-ghost use Rattle.halo_status.specs.ValidPay.{HasLength, HasRank, IsValidPay};
+ghost use Rattle.halo_status.specs.ValidPay.{IsValidPay};
 ghost use Rattle.halo_status.specs.declared.pay.Kind.TheVariants.{Insurance};
 ghost use Rattle.halo_table.specs.DecrementTable.{HasRow};
 ghost use Rattle.halo_model.specs.Horizon.{HasShortTerms};
 ghost use Rattle.halo_along.specs.Along.{IsTreeTask};
 
+use crate::test_bodies::{
+    ALL_THREE, Body, LIFE, TABLE, assert_worth, first_and, living, status_of, table,
+};
 use crate::{TreeTask, contingent_along, on_life_along, on_term_along};
 use halo_interest::{Interest, LAST_TIME};
 use halo_life::Group;
 use halo_model::horizon;
 use halo_num::{Ival, Steps};
-use halo_status::{Kind, Mark, Members, Pay, Status, Vary};
-use halo_table::{Life, Tables};
+use halo_status::{Kind, Mark, Pay, Status, Vary};
+use halo_table::Tables;
 use std::alloc::Global;
 use std::marker::Brand;
 use std::process::Abort;
@@ -25,110 +26,64 @@ use std::rt::HostRuntime;
 use std::sync::ledger::{Blank, Ledger};
 use std::test::Fail;
 
-// Four live at 60, of whom two, one and one die in the first three years.
-const TABLE: &[u8] = b"table,age,l,death\nm,60,4,2\nm,61,2,1\nm,62,1,1\n";
-
 // Four live at 60, of whom in each of two years one dies and one lapses.
 const WITH_LAPSES: &[u8] = b"table,age,l,death,lapse\nw,60,4,1,1\nw,61,2,1,1\n";
 
-const LIFE: Life = Life { table: 0, age: 60 };
-
-const HUNDRED_MILLIONTH: i128 = 10_000_000_000;
-
-#[derive(Clone, Copy)]
-enum Body {
-    Both,
-    FirstForTwoYears,
-}
-
-// What is asked of an insurance: its value, or what falls on one event.
+// What is asked of an insurance: its value at a time with the lives alive that have a row at their
+// age then, or what falls on one event.
 #[derive(Clone, Copy)]
 enum Asked {
-    Whole,
+    At(u16),
     OnLife(u8),
     OnTerm(u16),
 }
 
-// What is asked of a level insurance of 1, at a time with the lives alive that have a row at their
-// age then.
+// What is asked of a level insurance of 1.
 #[derive(Clone, Copy)]
 struct Case {
     name: &'static str,
-    start: u16,
     asked: Asked,
     hundred_millionths: i128,
 }
 
 // The value at the start.
 fn whole(name: &'static str, hundred_millionths: i128) -> Case {
-    Case {
-        name,
-        start: 0,
-        asked: Asked::Whole,
-        hundred_millionths,
-    }
+    part(name, Asked::At(0), hundred_millionths)
 }
 
 // The value at time 1.
 fn later(name: &'static str, hundred_millionths: i128) -> Case {
-    Case {
-        name,
-        start: 1,
-        asked: Asked::Whole,
-        hundred_millionths,
-    }
+    part(name, Asked::At(1), hundred_millionths)
 }
 
-// What falls on an event, at the start.
 fn part(name: &'static str, asked: Asked, hundred_millionths: i128) -> Case {
     Case {
         name,
-        start: 0,
         asked,
         hundred_millionths,
     }
 }
 
-fn first_and(alloc: Global, second: Status) -> Result<Members, Fail>
-    ensures { IfOk result (λ members. members ≡ Status.Life 0 ∷ second ∷ []) }
-{
-    let mut members = Members::new(alloc, Status::Life(0))?;
-    members.push(second)?;
-    Ok(members)
-}
-
-// A status of the two lives.
-#[tactic(auto, using(halo_status::proofs::Shapes::shapes))]
-fn status_of(alloc: Global, body: Body) -> Result<Status, Fail>
-    ensures { IfOk result (λ status. let tree = tree_of status in
-        NamesLivesBelow 2 tree × HasShortTerms tree × AtEachNode HasLength tree
-        × HasShortLists tree × (nodes tree ≤ 64) × AtEachNode HasRank tree × IsLasting tree) }
-{
-    match body {
-        Body::Both => Ok(Status::Joint(first_and(alloc, Status::Life(1))?)),
-        Body::FirstForTwoYears => Ok(Status::Joint(first_and(alloc, Status::Term(2))?)),
-    }
-}
-
-// An insurance of 1 on a status of the two lives, by some causes.
+// An insurance of 1 on a status, by some causes.
 fn insurance_on(rt: &impl Abort, alloc: Global, causes: Option<u8>, body: Body) -> Result<Pay, Fail>
-    ensures { IfOk result (λ pay. IsValidPay (pay_of pay) × NamesLivesBelow 2 (pay_of pay).body
+    ensures { IfOk result (λ pay. IsValidPay (pay_of pay) × NamesLivesBelow 3 (pay_of pay).body
         × HasShortTerms (pay_of pay).body × (pay.kind ≡ Insurance)) }
 {
-    assert!(rt; causes != Some(0));
+    let body = status_of(alloc, body)?;
+    assert!(rt; causes != Some(0) && body.lasting());
     Ok(Pay {
         amount: 1,
         vary: Vary::Level,
         kind: Kind::Insurance,
         defer: 0,
         causes,
-        body: status_of(alloc, body)?,
+        body,
         mark: None,
     })
 }
 
-// An insurance of 1 on both lives that pays on the failure of one of them at a rank, by some
-// causes.
+// An insurance of 1 on the first two lives that pays on the failure of one of them at a rank, by
+// some causes.
 #[tactic(auto, using(halo_status::proofs::Shapes::shapes))]
 fn insurance_at(
     rt: &impl Abort,
@@ -137,7 +92,7 @@ fn insurance_at(
     causes: Option<u8>,
     defer: u16,
 ) -> Result<Pay, Fail>
-    ensures { IfOk result (λ pay. IsValidPay (pay_of pay) × NamesLivesBelow 2 (pay_of pay).body
+    ensures { IfOk result (λ pay. IsValidPay (pay_of pay) × NamesLivesBelow 3 (pay_of pay).body
         × HasShortTerms (pay_of pay).body × (pay.kind ≡ Insurance)) }
 {
     assert!(rt; mark.member <= 1 && 1 <= mark.rank && mark.rank <= 2);
@@ -156,7 +111,7 @@ fn insurance_at(
 // What is asked of an insurance along its tree.
 fn answer<L: Ledger>(
     rt: &impl Abort,
-    along: &TreeTask<2>,
+    along: &TreeTask<3>,
     asked: Asked,
     steps: &mut Steps<L>,
 ) -> Ival
@@ -164,9 +119,12 @@ fn answer<L: Ledger>(
     requires insurance { along.now.pay.now.kind ≡ Insurance }
 {
     match asked {
-        Asked::Whole => contingent_along(along, steps),
+        Asked::At(t) => {
+            assert!(rt; t <= LAST_TIME);
+            contingent_along(along, t, living(along.group, t, ALL_THREE), steps)
+        }
         Asked::OnLife(life) => {
-            assert!(rt; life < 2);
+            assert!(rt; life < 3);
             on_life_along(along, life, steps)
         }
         Asked::OnTerm(n) => {
@@ -176,50 +134,33 @@ fn answer<L: Ledger>(
     }
 }
 
-fn value_of<L: Ledger>(
+// Asks an insurance on its tree what a case asks.
+fn assert_case<L: Ledger>(
     rt: &impl Abort,
     tables: &Tables,
     interest: &Interest,
     pay: &Pay,
     case: Case,
     steps: &mut Steps<L>,
-) -> Ival
+)
     requires row { HasRow tables.now 0 60 }
     requires valid { IsValidPay (pay_of pay.now) }
-    requires lives { NamesLivesBelow 2 (pay_of pay.now).body }
+    requires lives { NamesLivesBelow 3 (pay_of pay.now).body }
     requires terms { HasShortTerms (pay_of pay.now).body }
     requires insurance { pay.now.kind ≡ Insurance }
 {
-    assert!(rt; case.start <= LAST_TIME && pay.body.read_once());
-    let lives = [LIFE, LIFE];
+    assert!(rt; pay.body.read_once());
+    let lives = [LIFE, LIFE, LIFE];
     let horizon = horizon(&pay.body, tables, &lives);
-    let group = Group::<2>::new(tables, &lives, 0, 0);
-    let then = group.at(case.start);
+    let group = Group::<3>::new(tables, &lives, 0, ALL_THREE);
     let along = TreeTask {
         pay,
-        group: &then,
+        group: &group,
         interest,
         horizon,
     };
-    answer(rt, &along, case.asked, steps)
-}
-
-fn assert_worth(rt: &impl Abort, case: Case, value: Ival) {
-    let worth = case.hundred_millionths;
-    assert!(rt; 0 <= worth && worth <= 1_000_000_000);
-    let units = worth * HUNDRED_MILLIONTH;
-    assert_eq!(rt; (value.lo(), value.hi()), (units, units), "{}", case.name);
-}
-
-// A table, of which the lives have a row at their age.
-fn table(rt: &impl Abort, alloc: Global, text: &[u8]) -> Result<Tables, Fail>
-    requires { length text.now ≤ 16777216 }
-    ensures { IfOk result (λ tables. HasRow tables 0 60) }
-{
-    let tables = Tables::read(alloc, text)?;
-    assert!(rt; tables.count() >= 1);
-    assert!(rt; tables.first_age(0) <= 60 && 60 <= tables.last_age(0));
-    Ok(tables)
+    let value = answer(rt, &along, case.asked, steps);
+    assert_worth(rt, case.name, case.hundred_millionths, value);
 }
 
 // By any cause, in all and on one event.
@@ -252,7 +193,7 @@ fn assert_parts<L: Ledger>(
     ];
     for (body, case) in cases {
         let pay = insurance_on(rt, alloc, None, body)?;
-        assert_worth(rt, case, value_of(rt, tables, interest, &pay, case, steps));
+        assert_case(rt, tables, interest, &pay, case, steps);
     }
     Ok(())
 }
@@ -281,12 +222,12 @@ fn assert_by_cause<L: Ledger>(
     ];
     for (body, case) in cases {
         let pay = insurance_on(rt, alloc, Some(0b10), body)?;
-        assert_worth(rt, case, value_of(rt, tables, interest, &pay, case, steps));
+        assert_case(rt, tables, interest, &pay, case, steps);
     }
     let mark = Mark { member: 0, rank: 1 };
     let pay = insurance_at(rt, alloc, mark, Some(0b01), 0)?;
     let case = whole("A{death}[x^1:y]", 15_625_000);
-    assert_worth(rt, case, value_of(rt, tables, interest, &pay, case, steps));
+    assert_case(rt, tables, interest, &pay, case, steps);
     Ok(())
 }
 
@@ -312,7 +253,7 @@ fn assert_marked<L: Ledger>(
     ];
     for (member, rank, defer, case) in cases {
         let pay = insurance_at(rt, alloc, Mark { member, rank }, None, defer)?;
-        assert_worth(rt, case, value_of(rt, tables, interest, &pay, case, steps));
+        assert_case(rt, tables, interest, &pay, case, steps);
     }
     Ok(())
 }

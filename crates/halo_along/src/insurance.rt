@@ -16,8 +16,8 @@ use std::sync::ledger::Ledger;
 /// set of the group are not looked at.
 ///
 /// It encloses the exact value by either rule for ties, is no wider than its count, and lies from 0
-/// to the most that it can be worth. With n lives named by the body, m nodes and a horizon of H
-/// years the counter is raised by at most 16 (H + 1) (n + 1) (m + 1)^2.
+/// to the most that it can be worth. With m nodes in the body and a horizon of H years the counter
+/// is raised by at most 16 (H + 1) (m + 1)^2.
 pub fn insurance_along<const N: usize, L: Ledger>(
     along: &TreeTask<N>,
     t: u16,

@@ -1,43 +1,27 @@
-// Worked values of insurances along the tree, on two lives aged 60 in one table, with the interest
+// Worked values of insurances along the tree, on three lives aged 60 in one table, with the interest
 // 1/1.
-ghost use Rattle.std.specs.Prelude.{◌≡◌, ◌≤◌, ◌<◌, ◌∷◌, [], IfOk, None};
+ghost use Rattle.std.specs.Prelude.{◌≡◌, ◌<◌, IfOk, None};
 ghost use Rattle.halo_status.specs.Naming.{NamesLivesBelow};
-ghost use Rattle.halo_status.specs.Nodes.{AtEachNode, HasShortLists, IsLasting, nodes};
 ghost use Rattle.halo_status.specs.Pay.{pay_of};
-ghost use Rattle.halo_status.specs.StatusTree.{tree_of};
-ghost use Rattle.halo_status.specs.ValidPay.{HasLength, HasRank, IsValidPay};
+ghost use Rattle.halo_status.specs.ValidPay.{IsValidPay};
 ghost use Rattle.halo_status.specs.declared.pay.Kind.TheVariants.{Insurance};
 ghost use Rattle.halo_table.specs.DecrementTable.{HasRow};
 ghost use Rattle.halo_model.specs.Horizon.{HasShortTerms};
 
+use crate::test_bodies::{ALL_THREE, Body, LIFE, TABLE, assert_worth, living, status_of, table};
 use crate::{TreeTask, insurance_along};
 use halo_interest::{Interest, LAST_TIME};
 use halo_life::Group;
 use halo_model::horizon;
 use halo_num::{Ival, Steps};
-use halo_status::{Kind, Members, Pay, Status, Vary};
-use halo_table::{Life, Tables};
+use halo_status::{Kind, Pay, Vary};
+use halo_table::Tables;
 use std::alloc::Global;
 use std::marker::Brand;
 use std::process::Abort;
 use std::rt::HostRuntime;
 use std::sync::ledger::{Blank, Ledger};
 use std::test::Fail;
-
-// Four live at 60, of whom two, one and one die in the first three years.
-const TABLE: &[u8] = b"table,age,l,death\nm,60,4,2\nm,61,2,1\nm,62,1,1\n";
-
-const LIFE: Life = Life { table: 0, age: 60 };
-
-const HUNDRED_MILLIONTH: i128 = 10_000_000_000;
-
-#[derive(Clone, Copy)]
-enum Body {
-    First,
-    Both,
-    Either,
-    FirstForTwoYears,
-}
 
 // An insurance of 1 on a body, level or increasing, at a time with the lives alive that have a row
 // at their age then.
@@ -63,35 +47,13 @@ fn at_start(name: &'static str, body: Body, hundred_millionths: i128) -> Case {
     }
 }
 
-// A status of the two lives.
-#[tactic(auto, using(halo_status::proofs::Shapes::shapes))]
-fn status_of(alloc: Global, body: Body) -> Result<Status, Fail>
-    ensures { IfOk result (λ status. let tree = tree_of status in
-        NamesLivesBelow 2 tree × HasShortTerms tree × AtEachNode HasLength tree
-        × HasShortLists tree × (nodes tree ≤ 64) × AtEachNode HasRank tree × IsLasting tree) }
-{
-    match body {
-        Body::First => Ok(Status::Life(0)),
-        Body::Both => Ok(Status::Joint(first_and(alloc, Status::Life(1))?)),
-        Body::Either => Ok(Status::Last(first_and(alloc, Status::Life(1))?)),
-        Body::FirstForTwoYears => Ok(Status::Joint(first_and(alloc, Status::Term(2))?)),
-    }
-}
-
-fn first_and(alloc: Global, second: Status) -> Result<Members, Fail>
-    ensures { IfOk result (λ members. members ≡ Status.Life 0 ∷ second ∷ []) }
-{
-    let mut members = Members::new(alloc, Status::Life(0))?;
-    members.push(second)?;
-    Ok(members)
-}
-
 fn insurance_of(rt: &impl Abort, alloc: Global, case: Case) -> Result<Pay, Fail>
-    ensures { IfOk result (λ pay. IsValidPay (pay_of pay) × NamesLivesBelow 2 (pay_of pay).body
+    ensures { IfOk result (λ pay. IsValidPay (pay_of pay) × NamesLivesBelow 3 (pay_of pay).body
         × HasShortTerms (pay_of pay).body × (pay.kind ≡ Insurance) × (pay.mark ≡ None)
         × (pay.causes ≡ None)) }
 {
-    assert!(rt; case.defer <= LAST_TIME);
+    let body = status_of(alloc, case.body)?;
+    assert!(rt; case.defer <= LAST_TIME && body.lasting());
     Ok(Pay {
         amount: 1,
         vary: if case.increasing {
@@ -102,7 +64,7 @@ fn insurance_of(rt: &impl Abort, alloc: Global, case: Case) -> Result<Pay, Fail>
         kind: Kind::Insurance,
         defer: case.defer,
         causes: None,
-        body: status_of(alloc, case.body)?,
+        body,
         mark: None,
     })
 }
@@ -120,27 +82,17 @@ fn value_of<L: Ledger>(
     assert!(rt; case.start <= LAST_TIME);
     let pay = insurance_of(rt, alloc, case)?;
     assert!(rt; pay.body.read_once());
-    let lives = [LIFE, LIFE];
+    let lives = [LIFE, LIFE, LIFE];
     let horizon = horizon(&pay.body, tables, &lives);
-    let group = Group::<2>::new(tables, &lives, 0, 0);
+    let group = Group::<3>::new(tables, &lives, 0, 0);
     let along = TreeTask {
         pay: &pay,
         group: &group,
         interest,
         horizon,
     };
-    let alive = group.at(case.start).alive();
+    let alive = living(&group, case.start, ALL_THREE);
     Ok(insurance_along(&along, case.start, alive, steps))
-}
-
-// The table, of which the lives have a row at their age.
-fn table(rt: &impl Abort, alloc: Global) -> Result<Tables, Fail>
-    ensures { IfOk result (λ tables. HasRow tables 0 60) }
-{
-    let tables = Tables::read(alloc, TABLE)?;
-    assert!(rt; tables.count() >= 1);
-    assert!(rt; tables.first_age(0) <= 60 && 60 <= tables.last_age(0));
-    Ok(tables)
 }
 
 // The values of some insurances, where each is a short decimal.
@@ -150,7 +102,7 @@ fn assert_worked<L: Ledger>(rt: &impl Abort, alloc: Global, blank: Blank) -> Res
     requires some { 0 < L.parts }
 {
     let mut steps = Steps::<L>::new(blank);
-    let tables = table(rt, alloc)?;
+    let tables = table(rt, alloc, TABLE)?;
     let interest = Interest::new(1, 1).ok_or("1/1 is a fraction")?;
     let first = at_start("A[x]", Body::First, 34_375_000);
     let either = at_start("A[bar(x:y)]", Body::Either, 25_781_250);
@@ -186,16 +138,9 @@ fn assert_worked<L: Ledger>(rt: &impl Abort, alloc: Global, blank: Blank) -> Res
     ];
     for case in cases {
         let value = value_of(rt, alloc, &tables, &interest, case, &mut steps)?;
-        assert_worth(rt, case, value);
+        assert_worth(rt, case.name, case.hundred_millionths, value);
     }
     Ok(())
-}
-
-fn assert_worth(rt: &impl Abort, case: Case, value: Ival) {
-    let worth = case.hundred_millionths;
-    assert!(rt; 0 <= worth && worth <= 1_000_000_000);
-    let units = worth * HUNDRED_MILLIONTH;
-    assert_eq!(rt; (value.lo(), value.hi()), (units, units), "{}", case.name);
 }
 
 #[test]

@@ -11,6 +11,7 @@
 #![tactic(auto)]
 
 mod annuity;
+mod bounds;
 mod by_kind;
 mod contingent;
 #[cfg(test)]
@@ -24,11 +25,14 @@ mod leaving;
 mod lives;
 mod parts;
 #[cfg(test)]
+mod test_bodies;
+#[cfg(test)]
 mod tests;
 mod tree_task;
 mod years;
 
 pub use annuity::annuity_along;
+pub use bounds::{least_of_annuity, most_of_annuity};
 pub use by_kind::value_along;
 pub use contingent::contingent_along;
 pub use insurance::insurance_along;

@@ -21,8 +21,8 @@ use std::sync::ledger::Ledger;
 /// with the lives alive that it says. The rule for ties of the group is not looked at.
 ///
 /// It is no wider than the count of the insurance, and from 0 to the most that it can be worth;
-/// where no payment can fall on that leaving it is exactly 0. The counter is raised by at most
-/// 16(H+1)(n+1)(m+1)², for the horizon H and the n lives and m nodes of the body.
+/// where no payment can fall on that leaving it is exactly 0. With m nodes in the body and a
+/// horizon of H years the counter is raised by at most 16 (H + 1) (m + 1)^2.
 pub fn on_life_along<const N: usize, L: Ledger>(
     along: &TreeTask<N>,
     life: u8,

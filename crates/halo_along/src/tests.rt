@@ -1,22 +1,21 @@
 // Worked values along the tree, of annuities on three lives aged 60 in one table, with the interest
 // 1/1.
-ghost use Rattle.std.specs.Prelude.{◌≡◌, ◌≢◌, ◌≤◌, ◌<◌, ◌∷◌, [], IfOk};
+ghost use Rattle.std.specs.Prelude.{◌≡◌, ◌≢◌, ◌<◌, IfOk};
 ghost use Rattle.halo_status.specs.Naming.{NamesLivesBelow};
-ghost use Rattle.halo_status.specs.Nodes.{AtEachNode, HasShortLists, nodes};
 ghost use Rattle.halo_status.specs.Pay.{pay_of};
-ghost use Rattle.halo_status.specs.StatusTree.{tree_of};
-ghost use Rattle.halo_status.specs.ValidPay.{HasLength, HasRank, IsValidPay};
+ghost use Rattle.halo_status.specs.ValidPay.{IsValidPay};
 ghost use Rattle.halo_status.specs.declared.pay.Kind.TheVariants.{Insurance};
 ghost use Rattle.halo_table.specs.DecrementTable.{HasRow};
 ghost use Rattle.halo_model.specs.Horizon.{HasShortTerms};
 
+use crate::test_bodies::{ALL_THREE, Body, LIFE, TABLE, assert_worth, living, status_of, table};
 use crate::{TreeTask, annuity_along};
 use halo_interest::{Interest, LAST_TIME};
 use halo_life::Group;
 use halo_model::horizon;
 use halo_num::{Ival, Steps};
-use halo_status::{Kind, Members, Pay, Status, Vary};
-use halo_table::{Life, Tables};
+use halo_status::{Kind, Pay, Vary};
+use halo_table::Tables;
 use std::alloc::Global;
 use std::marker::Brand;
 use std::process::Abort;
@@ -24,25 +23,7 @@ use std::rt::HostRuntime;
 use std::sync::ledger::{Blank, Ledger};
 use std::test::Fail;
 
-// Four live at 60, of whom two, one and one die in the first three years.
-const TABLE: &[u8] = b"table,age,l,death\nm,60,4,2\nm,61,2,1\nm,62,1,1\n";
-
-const LIFE: Life = Life { table: 0, age: 60 };
-
-const ALL_THREE: u16 = 0b111;
-
 const FIRST_ONE: u16 = 0b001;
-
-const HUNDRED_MILLIONTH: i128 = 10_000_000_000;
-
-#[derive(Clone, Copy)]
-enum Body {
-    First,
-    FirstTwo,
-    EitherOfTwo,
-    TwoOfThree,
-    SecondAfterFirst,
-}
 
 // An annuity of 1 on a body, level or increasing, at a time with some lives alive.
 #[derive(Clone, Copy)]
@@ -69,43 +50,6 @@ fn at_start(name: &'static str, kind: Kind, body: Body, hundred_millionths: i128
         alive: ALL_THREE,
         hundred_millionths,
     }
-}
-
-// A status of the three lives.
-#[tactic(auto, using(halo_status::proofs::Shapes::shapes))]
-fn status_of(alloc: Global, body: Body) -> Result<Status, Fail>
-    ensures { IfOk result (λ status. let tree = tree_of status in
-        NamesLivesBelow 3 tree × HasShortTerms tree × AtEachNode HasLength tree
-        × HasShortLists tree × (nodes tree ≤ 64) × AtEachNode HasRank tree) }
-{
-    match body {
-        Body::First => Ok(Status::Life(0)),
-        Body::FirstTwo => Ok(Status::Joint(first_two(alloc)?)),
-        Body::EitherOfTwo => Ok(Status::Last(first_two(alloc)?)),
-        Body::TwoOfThree => {
-            let mut lives = first_two(alloc)?;
-            lives.push(Status::Life(2))?;
-            Ok(Status::AtLeast(2, lives))
-        }
-        Body::SecondAfterFirst => {
-            let first = boxed(alloc, Status::Life(0))?;
-            Ok(Status::After(first, boxed(alloc, Status::Life(1))?))
-        }
-    }
-}
-
-fn first_two(alloc: Global) -> Result<Members, Fail>
-    ensures { IfOk result (λ members. members ≡ Status.Life 0 ∷ Status.Life 1 ∷ []) }
-{
-    let mut members = Members::new(alloc, Status::Life(0))?;
-    members.push(Status::Life(1))?;
-    Ok(members)
-}
-
-fn boxed(alloc: Global, status: Status) -> Result<Box<Status>, Fail>
-    ensures { IfOk result (λ boxed. boxed.value ≡ status) }
-{
-    Box::new(alloc, status).map_err(|_| Fail::from("no memory for a status"))
 }
 
 fn annuity_of(rt: &impl Abort, alloc: Global, case: Case) -> Result<Pay, Fail>
@@ -151,18 +95,8 @@ fn value_of<L: Ledger>(
         interest,
         horizon,
     };
-    let alive = case.alive & group.at(case.t).alive();
+    let alive = living(&group, case.t, case.alive);
     Ok(annuity_along(&along, case.t, alive, steps))
-}
-
-// The table, of which the three lives have a row at their age.
-fn table(rt: &impl Abort, alloc: Global) -> Result<Tables, Fail>
-    ensures { IfOk result (λ tables. HasRow tables 0 60) }
-{
-    let tables = Tables::read(alloc, TABLE)?;
-    assert!(rt; tables.count() >= 1);
-    assert!(rt; tables.first_age(0) <= 60 && 60 <= tables.last_age(0));
-    Ok(tables)
 }
 
 // The values of some annuities, where each is a short decimal.
@@ -172,12 +106,12 @@ fn assert_worked<L: Ledger>(rt: &impl Abort, alloc: Global, blank: Blank) -> Res
     requires some { 0 < L.parts }
 {
     let mut steps = Steps::<L>::new(blank);
-    let tables = table(rt, alloc)?;
+    let tables = table(rt, alloc, TABLE)?;
     let interest = Interest::new(1, 1).ok_or("1/1 is a fraction")?;
-    let either = at_start("ad[bar(x:y)]", Kind::Due, Body::EitherOfTwo, 148_437_500);
+    let either = at_start("ad[bar(x:y)]", Kind::Due, Body::Either, 148_437_500);
     let first = at_start("ad[x]", Kind::Due, Body::First, 131_250_000);
     let cases = [
-        at_start("ad[x:y]", Kind::Due, Body::FirstTwo, 114_062_500),
+        at_start("ad[x:y]", Kind::Due, Body::Both, 114_062_500),
         at_start("ad[2/(x:y:z)]", Kind::Due, Body::TwoOfThree, 128_906_250),
         at_start(
             "a[x|y]",
@@ -215,16 +149,9 @@ fn assert_worked<L: Ledger>(rt: &impl Abort, alloc: Global, blank: Blank) -> Res
     ];
     for case in cases {
         let value = value_of(rt, alloc, &tables, &interest, case, &mut steps)?;
-        assert_worth(rt, case, value);
+        assert_worth(rt, case.name, case.hundred_millionths, value);
     }
     Ok(())
-}
-
-fn assert_worth(rt: &impl Abort, case: Case, value: Ival) {
-    let worth = case.hundred_millionths;
-    assert!(rt; 0 <= worth && worth <= 1_000_000_000);
-    let units = worth * HUNDRED_MILLIONTH;
-    assert_eq!(rt; (value.lo(), value.hi()), (units, units), "{}", case.name);
 }
 
 #[test]

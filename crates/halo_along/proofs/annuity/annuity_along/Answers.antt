@@ -1,17 +1,12 @@
-use Rattle.std.proofs.Common.{subst}
-use Rattle.halo_sums.specs.Masks.{has_bit}
 use Rattle.halo_status.specs.Pay.{pay_of}
-use Rattle.halo_model.specs.ContractBasis.{basis_of}
-use Rattle.halo_model.specs.Enclosed.{EnclosesOne}
-use Rattle.halo_life.specs.PlainGroup.{PlainGroup}
 use Rattle.halo_along.specs.Along.{EnclosesAlong}
+use Rattle.halo_along.proofs.SameLives.{one-then}
 use Rattle.halo_along.proofs.annuity.annuity_along.Goals as goal
 
 pub returns-clause-encloses : goal.returns-clause-encloses
 unfolding EnclosesAlong
 returns-clause-encloses g c = λ ties.
     let along = c.args.along.now in
-    let group = rw (c.tables.ensures.value, c.lives.ensures.value) at c.new-group.ensures in
-    let P : PlainGroup → Type 0 = λ then. EnclosesOne (basis_of then.file along.interest.now then.lives ties)
-    (pay_of along.pay.now) then.start (has_bit then.alive) c.annuity_at_start.result in
-    subst P group (c.annuity_at_start.ensures.encloses ties)
+    one-then along.interest.now along.group.now c.new-group.result c.args.t c.args.alive ties (pay_of along.pay.now)
+    c.annuity_at_start.result (rw (c.tables.ensures.value, c.lives.ensures.value) at c.new-group.ensures)
+    (c.annuity_at_start.ensures.encloses ties)

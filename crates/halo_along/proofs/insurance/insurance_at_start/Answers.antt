@@ -1,13 +1,13 @@
-use Rattle.std.proofs.Common.{◌*◌, ◌-◌, ap, arith, sym, ◌∙◌}
+use Rattle.std.proofs.Common.{◌+◌, ◌*◌, ◌-◌, ap, arith, sym, ◌∙◌}
 use Rattle.std.proofs.lemmas.Int.{ints}
 use Rattle.halo_num.specs.Ends.{fine}
 use Rattle.halo_status.specs.Nodes.{nodes}
 use Rattle.halo_status.specs.Pay.{pay_of}
 use Rattle.halo_contract.specs.declared.ties.Ties.TheVariants.{Declared}
-use Rattle.halo_model.specs.Counts.{lives_named}
 use Rattle.halo_compile.proofs.Clamped.{meets-above, meets-below}
 use Rattle.halo_along.specs.Along.{EnclosesAlong}
-use Rattle.halo_along.proofs.InsuredWhole.{insured-above, insured-encloses, insured-narrow, insured-products-few, most-of-insurance}
+use Rattle.halo_along.proofs.Counting.{insured-year-few, products-few}
+use Rattle.halo_along.proofs.InsuredWhole.{insured-above, insured-encloses, insured-narrow, most-of-insurance}
 use Rattle.halo_along.proofs.Whole.{some-denominator}
 use Rattle.halo_along.proofs.insurance.insurance_at_start.Goals as goal
 
@@ -61,9 +61,10 @@ returns-clause-value g c = λ ties.
 pub returns-clause-cost : goal.returns-clause-cost
 returns-clause-cost g c =
     let along = c.args.along.now in
+    let body = (pay_of along.pay.now).body in
     omega (
       arith,
       c.value_of_years-total.ensures.cost,
-      insured-products-few (along.horizon - along.group.now.start) along.horizon
-          (lives_named g.row.N (pay_of along.pay.now).body) (nodes (pay_of along.pay.now).body) (omega arith),
+      products-few (along.horizon - along.group.now.start + 1) _ along.horizon (nodes body) (omega arith)
+          (insured-year-few (nodes body)),
     )

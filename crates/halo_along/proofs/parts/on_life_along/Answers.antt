@@ -1,14 +1,9 @@
-use Rattle.std.proofs.Common.{ℕ, ◌+◌, ◌-◌, ◌*◌, ◌^◌, ap, arith, sym, ◌∙◌}
-use Rattle.std.proofs.lemmas.Int.{ints}
-use Rattle.halo_num.specs.Ends.{fine}
+use Rattle.std.proofs.Common.{arith, ◌∙◌}
 use Rattle.halo_status.specs.Naming.{names_life}
 use Rattle.halo_status.specs.Nodes.{nodes}
 use Rattle.halo_status.specs.Pay.{pay_of}
-use Rattle.halo_contract.specs.declared.ties.Ties.TheVariants.{Declared}
-use Rattle.halo_model.specs.Counts.{lives_named}
 use Rattle.halo_compile.proofs.Clamped.{meets-above, meets-below}
 use Rattle.halo_along.proofs.Contingents.{one-life-products}
-use Rattle.halo_along.proofs.InsuredWhole.{most-of-insurance}
 use Rattle.halo_along.proofs.PartsAlong.{bounded-part, life-part}
 use Rattle.halo_along.proofs.Whole.{some-denominator}
 use Rattle.halo_along.proofs.parts.on_life_along.Goals as goal
@@ -51,5 +46,5 @@ returns-clause-cost g c =
     omega (
       arith,
       c.value_of_life-part.ensures.cost,
-      one-life-products (names_life c.args.life body) along.horizon (lives_named g.row.N body) (nodes body),
+      one-life-products (names_life c.args.life body) along.horizon (nodes body),
     )

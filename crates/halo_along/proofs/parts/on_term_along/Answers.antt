@@ -1,11 +1,7 @@
-use Rattle.std.proofs.Common.{◌≡◌, ℕ, suc, ◌+◌, ◌-◌, ◌*◌, ◌^◌, ◌≤◌, ap, arith, false, lit<, subst, sym, true, ◌∙◌}
-use Rattle.std.proofs.lemmas.Int.{ints}
-use Rattle.halo_num.specs.Ends.{fine}
+use Rattle.std.proofs.Common.{◌≡◌, ℕ, ◌+◌, ◌-◌, arith, lit<, subst, sym, ◌∙◌}
 use Rattle.halo_status.specs.Nodes.{nodes}
 use Rattle.halo_status.specs.Pay.{pay_of}
 use Rattle.halo_contract.specs.declared.ties.Ties.TheVariants.{Declared}
-use Rattle.halo_model.specs.Counts.{lives_named}
-use Rattle.halo_model.specs.SetValue.{can_fall_on_term}
 use Rattle.halo_compile.proofs.Clamped.{meets-above, meets-below}
 use Rattle.halo_model.specs.Enclosed.{of_one}
 use Rattle.halo_sums.specs.Masks.{has_bit}
@@ -13,7 +9,6 @@ use Rattle.halo_along.specs.Along.{basis_of_tree_task}
 use Rattle.halo_along.specs.Parts.{worth_on_end}
 use Rattle.halo_along.specs.Years.{IsDiscount}
 use Rattle.halo_along.proofs.Contingents.{one-term-products}
-use Rattle.halo_along.proofs.InsuredWhole.{most-of-insurance}
 use Rattle.halo_along.proofs.PartsAlong.{IsPart, bounded-part, falling-term-in, past-term, silent-term, term-is-part}
 use Rattle.halo_along.proofs.Whole.{some-denominator}
 use Rattle.halo_along.proofs.parts.on_term_along.Given.{Over}
@@ -107,6 +102,5 @@ returns-clause-cost g c =
       arith,
       c.discount_to-discount.ensures.cost,
       c.value_of_end-part.ensures.cost,
-      one-term-products (c.args.n - along.group.now.start) along.horizon (lives_named g.row.N body) (nodes body)
-          (omega (arith, short)),
+      one-term-products (c.args.n - along.group.now.start) along.horizon (nodes body) (omega (arith, short)),
     )
