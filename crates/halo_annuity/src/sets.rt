@@ -1,6 +1,6 @@
 // Payments to the sets of named lives, one set after the other.
-ghost use Rattle.std.specs.Prelude.{◌≡◌, ◌≢◌, ℕ, ◌*◌, ◌<◌, ◌≤◌, false, true};
-ghost use Rattle.halo_num.specs.Ends.{IsSized};
+ghost use Rattle.std.specs.Prelude.{◌≡◌, ◌≢◌, ℕ, ◌*◌, ◌^◌, ◌<◌, ◌≤◌, false, true, pos};
+ghost use Rattle.halo_num.specs.Ends.{IsSized, IsWithin};
 ghost use Rattle.halo_life.specs.Lists.{entry, nothing};
 ghost use Rattle.halo_life.specs.Total.{AreModest, AreModestAt};
 ghost use Rattle.halo_sums.specs.Within.{is_within};
@@ -73,7 +73,24 @@ fn pay_set<const M: usize>(work: &mut Work<M>, set: u16, paid: u16, coefficient:
         (entry work.new.plus mask ≡ entry work.old.plus mask)
         × (entry work.new.minus mask ≡ entry work.old.minus mask) }
 {
-    let plus = work.plus(set).add(ones(paid, above_zero(coefficient)));
-    let minus = work.minus(set).add(ones(paid, below_zero(coefficient)));
+    if coefficient == 0 {
+        return;
+    }
+    let plus = grown(work.plus(set), paid, above_zero(coefficient));
+    let minus = grown(work.minus(set), paid, below_zero(coefficient));
     work.put(set, plus, minus);
+}
+
+// A value with so many payments of so many ones more: itself where there are none, as a coefficient
+// has one sign.
+fn grown(before: Ival, paid: u16, times: u64) -> Ival
+    requires paid { paid ≤ MOST_PAID }
+    requires times { times ≤ GREATEST_COEFFICIENT }
+    requires modest { IsWithin before (pos 0) (pos (10 ^ 32)) }
+    ensures { GrowsBy (paid * times) before result }
+{
+    if times == 0 {
+        return before;
+    }
+    before.add(ones(paid, times))
 }
