@@ -1,5 +1,5 @@
 -- How wide the sets of an annuity are together: at most its count.
-use Rattle.std.proofs.Common.{◌≡◌, ℕ, zero, suc, ◌+◌, ◌*◌, ◌-◌, ◌^◌, ◌<◌, ◌≤◌, List, map, Bool, cond, true, false, ℤ, pos, negsuc, arith, refl, ap, sym, ◌∙◌, ⊎_elim}
+use Rattle.std.proofs.Common.{◌≡◌, ℕ, zero, suc, ◌+◌, ◌*◌, ◌-◌, ◌^◌, ◌<◌, ◌≤◌, List, map, Bool, cond, false, ℤ, pos, negsuc, arith, refl, ap, sym, ◌∙◌, ⊎_elim}
 use Rattle.std.proofs.Math.Nat.{mul-le-mul_right, pow-le-pow_left}
 use Rattle.std.proofs.lemmas.Bool.{cases_lt}
 use Rattle.std.proofs.lemmas.Nat.{mul-le}
@@ -14,13 +14,12 @@ use Rattle.halo_sums.proofs.Sums.{sum_over-add, sum_over-ext, sum_over-map, sum_
 use Rattle.halo_status.specs.Pay.{PlainPay}
 use Rattle.halo_status.specs.declared.pay.Kind.{Kind}
 use Rattle.halo_status.specs.declared.pay.Kind.TheVariants.{Insurance, Due, Immediate}
-use Rattle.halo_status.specs.declared.pay.Vary.{Vary}
-use Rattle.halo_status.specs.declared.pay.Vary.TheVariants.{Level, Increasing, Decreasing}
-use Rattle.halo_model.specs.Payment.{factor, payment}
+use Rattle.halo_model.specs.Payment.{payment}
 use Rattle.halo_model.specs.Coefficient.{form}
 use Rattle.halo_model.specs.Counts.{Measures, form_weight, greatest, greatest_factor, size, width_count}
 use Rattle.halo_model.specs.Segment.{coefficients_at, first_time, last_time_of_form}
 use Rattle.halo_model.specs.Backward.{above_zero, below_zero, gain, loss, may_pay, paid_at, years_passed}
+use Rattle.halo_along.proofs.Counting.{paid-within}
 use Rattle.halo_annuity.specs.Worth.{paid_in_all, waited}
 
 -- what is paid by two is paid by both
@@ -97,34 +96,6 @@ sizes-within pay n years t from below =
       e,
       greatest-above (λ u. sum_over (coefficients_at pay n u) size) years (first_time pay.kind) t from below,
     )
-
--- a payment of 1, by its factor
-factor-within : (vary : Vary) (passed years : ℕ) → passed ≤ years → factor vary passed ≤ greatest_factor vary years
-factor-within Level passed years h = omega arith
-factor-within Increasing passed years h = omega arith
-factor-within (Decreasing n) passed years h = omega arith
-
-passed-within : (kind : Kind) (defer t : ℕ) → years_passed kind defer t ≤ t
-passed-within Insurance defer t = omega arith
-passed-within Due defer t = omega arith
-passed-within Immediate defer t = omega arith
-
-cond-within : (may : Bool) (m n : ℕ) → m ≤ n → cond may m 0 ≤ n
-cond-within true m n h = h
-cond-within false m n h = omega arith
-
-pub paid-within : (pay : PlainPay)
-    → pay.amount ≡ 1 → (T t years : ℕ) → t ≤ years → paid_at pay T t ≤ greatest_factor pay.vary years
-paid-within pay one T t years h =
-    cond-within (may_pay pay.kind pay.defer T t) _ _
-    (let e : payment pay (years_passed pay.kind pay.defer t) ≡ 1 * factor pay.vary (years_passed pay.kind pay.defer t) =
-    ap (λ (a : ℕ). a * factor pay.vary (years_passed pay.kind pay.defer t)) one in
-    omega (
-      arith,
-      e,
-      factor-within pay.vary
-          (years_passed pay.kind pay.defer t) years (omega (arith, passed-within pay.kind pay.defer t)),
-    ))
 
 -- before the first time of its form nothing is paid
 pub never-before : (kind : Kind) (defer T t : ℕ) → t < first_time kind → may_pay kind defer T t ≡ false

@@ -1,3 +1,4 @@
+pub mod AlongTree
 pub mod Carrying
 pub mod Carried
 pub mod Counting

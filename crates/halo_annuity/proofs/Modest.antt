@@ -17,7 +17,7 @@ use Rattle.halo_life.specs.Lists.{Lists}
 use Rattle.halo_life.specs.Total.{AreModestAt}
 use Rattle.halo_compile.specs.NamedSets.{AreNamed}
 use Rattle.halo_annuity.specs.Worth.{HoldCarried, HoldValues, paid_in_all}
-use Rattle.halo_annuity.proofs.Counting.{paid-within}
+use Rattle.halo_along.proofs.Counting.{paid-within}
 use Rattle.halo_sums.proofs.SetMasks.{length-bits}
 use Rattle.halo_compile.proofs.Coefficients.{above-sized, below-sized, coefficient-sized}
 

@@ -35,10 +35,11 @@ use Rattle.halo_annuity.specs.RunWorth.{EnclosesDiscountedSurvival, paid_in}
 use Rattle.halo_annuity.specs.declared.term.TheConstants.{MOST_PART}
 use Rattle.halo_annuity.specs.Worth.{Carries, EnclosesCarried, EnclosesSet, paid_in_all, waited}
 use Rattle.halo_annuity.proofs.Carried.{carried-set, paid-set}
-use Rattle.halo_annuity.proofs.Counting.{count-has-room, most-together, paid-within, sizes-within, waited-together}
+use Rattle.halo_along.proofs.Counting.{paid-within, share-of-annuity}
+use Rattle.halo_along.proofs.Whole.{most-is}
+use Rattle.halo_annuity.proofs.Counting.{count-has-room, most-together, sizes-within, waited-together}
 use Rattle.halo_annuity.proofs.Modest.{factor-sized, most-small, small-within}
 use Rattle.halo_annuity.proofs.Passes.{none-worth}
-use Rattle.halo_annuity.proofs.Totals.{share-of-ties}
 use Rattle.halo_compile.proofs.Coefficients.{parts-size}
 
 -- whether a time is one of the run
@@ -248,14 +249,7 @@ module _ (b : Basis) (pay : PlainPay) (annual : pay.kind ≢ Insurance)
       ≤ (years + 1) * years * (greatest_factor pay.vary years * form_weight pay (length b.lives) years) =
       rw count (omega (arith, w, m)) in
       count-has-room n (measures_of b pay)
-      (waited (paid_in pay run times) 0 (suc run.last)) few some_nodes (share-of-ties b.ties pay.kind _ annual) all
-
-  most-is : (kind : Kind)
-      → kind ≢ Insurance → most_worth kind (measures_of b pay) ≡ greatest_factor pay.vary years * (years + 1)
-  unfolding most_worth
-  most-is Insurance k = absurd (k refl)
-  most-is Due k = refl
-  most-is Immediate k = refl
+      (waited (paid_in pay run times) 0 (suc run.last)) few some_nodes (share-of-annuity b.ties pay.kind _ annual) all
 
   pub part-sized : paid_in_all (paid_in pay run times) 0 (suc run.last)
       ≤ form_weight pay (length b.lives) years * most_worth pay.kind (measures_of b pay)
@@ -263,4 +257,4 @@ module _ (b : Basis) (pay : PlainPay) (annual : pay.kind ≢ Insurance)
       let w = most-together (0 ∷ [])
       (λ (k : ℕ) u. paid_in pay run times u) bound (suc run.last) 0 (λ u from below. each u (omega arith)) in
       let m : suc run.last * bound ≤ (years + 1) * bound = mul-le-mul_right bound (omega (arith, to-years)) in
-      rw (most-is pay.kind annual, count) (omega (arith, w, m))
+      rw (most-is pay.kind annual (measures_of b pay), count) (omega (arith, w, m))

@@ -3,10 +3,9 @@ use Rattle.std.proofs.Common.{◌≡◌, ◌≢◌, ◌⊎◌, ℕ, ◌+◌, ◌
 use Rattle.halo_sums.specs.Masks.{has_bit}
 use Rattle.halo_interest.specs.Rates.{IsInterest}
 use Rattle.halo_status.specs.Pay.{pay_of}
-use Rattle.halo_status.specs.declared.pay.Kind.{Kind}
-use Rattle.halo_status.specs.declared.pay.Kind.TheVariants.{Insurance, Due, Immediate}
+use Rattle.halo_status.specs.declared.pay.Kind.TheVariants.{Insurance}
 use Rattle.halo_model.specs.Basis.{Basis}
-use Rattle.halo_model.specs.Counts.{Measures, greatest_factor, measures_of, most_worth}
+use Rattle.halo_model.specs.Counts.{greatest_factor, measures_of, most_worth}
 use Rattle.halo_contract.specs.declared.ties.Ties.{Ties}
 use Rattle.halo_contract.specs.declared.ties.Ties.TheVariants.{Declared}
 use Rattle.halo_model.specs.Value.{denominator, numerator}
@@ -15,16 +14,12 @@ use Rattle.halo_life.specs.PlainGroup.{IsGroup}
 use Rattle.halo_compile.specs.ValidTask.{IsTask}
 use Rattle.halo_compile.specs.declared.task.Task.{Task}
 use Rattle.halo_compile.specs.OfTask.{HaveSurvivorsAt, basis_of_task, pay_of_task}
-use Rattle.halo_annuity.specs.AtTime.{PaysAtOnce}
+use Rattle.halo_along.specs.AtOnce.{PaysAtOnce}
+use Rattle.halo_along.proofs.Counting.{no-mark}
+use Rattle.halo_along.proofs.Whole.{most-is}
 use Rattle.halo_annuity.proofs.Carried.{positive-both}
 use Rattle.halo_compile.proofs.Tasks.{count-lives, group-lives, interest-there, survivors-there}
-use Rattle.halo_annuity.proofs.TaskFacts.{no-mark, positive-ranks}
-
-most-is : (kind : Kind) → kind ≢ Insurance → (m : Measures) → most_worth kind m ≡ m.factor * (m.horizon + 1)
-unfolding most_worth
-most-is Insurance annual m = absurd (annual refl)
-most-is Due annual m = refl
-most-is Immediate annual m = refl
+use Rattle.halo_annuity.proofs.TaskFacts.{positive-ranks}
 
 module _ {n m : ℕ} (task : Task n m) (is : IsTask task) (group : IsGroup n task.group.now)
     (annual : task.pay.now.kind ≢ Insurance) (ties : Ties) where
@@ -44,10 +39,10 @@ module _ {n m : ℕ} (task : Task n m) (is : IsTask task) (group : IsGroup n tas
         (no-mark (pay_of task.pay.now) is.valid annual) refl is.valid.lists
         (positive-ranks (pay_of task.pay.now) is.valid) t in_time (has_bit alive))
 
-    pub value-below : (least : ℕ) → ((least ≡ 1) × PaysAtOnce task t alive) ⊎ (least ≡ 0)
+    pub value-below : (least : ℕ) → ((least ≡ 1) × PaysAtOnce task.pay.now t alive) ⊎ (least ≡ 0)
         → least * denominator b t (has_bit alive) ≤ numerator b (pay_of_task task) t (has_bit alive)
     value-below least either = ⊎_elim
-        (λ (one : (least ≡ 1) × PaysAtOnce task t alive).
+        (λ (one : (least ≡ 1) × PaysAtOnce task.pay.now t alive).
         let now = one.1 in
         let d = due-is-worth-one b (group-lives n task.group.now group) (pay_of_task task) now.due
         (no-mark (pay_of task.pay.now) is.valid annual) refl now.level now.at_once

@@ -1,15 +1,14 @@
 -- What a valid task says of its numbers, its lives and its pay.
-use Rattle.std.proofs.Common.{◌≡◌, ◌^◌, ◌≢◌, ℕ, ◌+◌, ◌*◌, ◌<◌, ◌≤◌, List, Bool, cond, false, Option, Some, None, arith, refl, ⊎_elim}
+use Rattle.std.proofs.Common.{◌≡◌, ◌^◌, ℕ, ◌+◌, ◌*◌, ◌<◌, ◌≤◌, List, Bool, cond, false, arith, refl, ⊎_elim}
 use Rattle.std.proofs.Math.Nat.{mul-le-mul_right}
 use Rattle.std.proofs.lemmas.Bool.{cases_lt}
 use Rattle.std.proofs.lemmas.Nat.{mul-le}
-use Rattle.halo_status.specs.Tree.{Tree, life, term, joint, last, at_least, exactly, after}
-use Rattle.halo_status.specs.Nodes.{HasPositiveRanks, nodes}
+use Rattle.halo_status.specs.Tree.{Tree}
+use Rattle.halo_status.specs.Nodes.{HasPositiveRanks}
 use Rattle.halo_status.specs.Pay.{PlainPay}
 use Rattle.halo_status.specs.ValidPay.{IsValidPay}
 use Rattle.halo_status.specs.declared.pay.Kind.{Kind}
 use Rattle.halo_status.specs.declared.pay.Kind.TheVariants.{Insurance, Due, Immediate}
-use Rattle.halo_status.specs.declared.pay.Mark.{Mark}
 use Rattle.halo_model.specs.Life.{PlainLife}
 use Rattle.halo_model.specs.Horizon.{horizon}
 use Rattle.halo_model.specs.Payment.{payment}
@@ -42,26 +41,9 @@ form-begun pay T t some = ⊎_elim
     (λ (begun : first_time pay.kind ≤ t). begun)
     (cases_lt t (first_time pay.kind))
 
--- a valid pay asks for some members in each list, and is written with some node
+-- a valid pay asks for some members in each list
 pub positive-ranks : (pay : PlainPay) → IsValidPay pay → HasPositiveRanks pay.body
 positive-ranks pay valid = ranks-ask pay.body valid.ranks
-
-pub some-nodes : (s : Tree) → 1 ≤ nodes s
-some-nodes (life i) = omega arith
-some-nodes (term n) = omega arith
-some-nodes (joint ms) = omega arith
-some-nodes (last ms) = omega arith
-some-nodes (at_least r ms) = omega arith
-some-nodes (exactly r ms) = omega arith
-some-nodes (after s t) = omega arith
-
--- an annuity has no mark
-pub no-mark : (pay : PlainPay) → IsValidPay pay → pay.kind ≢ Insurance → pay.mark ≡ None
-no-mark pay valid annual = by-mark pay.mark refl
-  where
-    by-mark : (mark : Option Mark) → pay.mark ≡ mark → mark ≡ None
-    by-mark None e = refl
-    by-mark (Some mark) e = absurd (annual ((rw e at valid.mark).0))
 
 -- with as many sets as there are of the lives of a task, the values of the sets of named lives are modest
 pub modest-sets : (m n : ℕ) (body : Tree) (lists : Lists) → m ≡ 2 ^ n

@@ -36,6 +36,7 @@ use Rattle.halo_compile.specs.ValidTask.{IsTask}
 use Rattle.halo_compile.specs.declared.form.Segment.{Segment}
 use Rattle.halo_compile.specs.declared.task.Task.{Task}
 use Rattle.halo_compile.specs.OfTask.{basis_of_task, pay_of_task}
+use Rattle.halo_along.proofs.Counting.{some-nodes}
 use Rattle.halo_annuity.specs.RunWorth.{EnclosesRun, paid_in}
 use Rattle.halo_annuity.specs.declared.term.TheConstants.{MOST_PART}
 use Rattle.halo_annuity.specs.Worth.{EnclosesSet}
@@ -45,7 +46,7 @@ use Rattle.halo_compile.proofs.Living.{row-survives}
 use Rattle.halo_compile.proofs.Coefficients.{coefficient-sized, form-of-one}
 use Rattle.halo_annuity.proofs.RunWorths.{part-narrow, part-sized, run-most, run-sums, run-within, signed-part, times-sized}
 use Rattle.halo_compile.proofs.Tasks.{count-lives, some-survive}
-use Rattle.halo_annuity.proofs.TaskFacts.{last-in, some-nodes, some-years}
+use Rattle.halo_annuity.proofs.TaskFacts.{last-in, some-years}
 
 whole-is : (orders all this others interest : ℕ)
     → all ≡ this * others → orders * (all * interest) ≡ this * interest * (orders * others)

@@ -12,15 +12,12 @@ use Rattle.halo_num.specs.Enclosure.{Encloses}
 use Rattle.halo_num.proofs.Enclosures.{encloses_at, encloses_sub}
 use Rattle.halo_status.specs.Nodes.{HasPositiveRanks, HasShortLists, nodes}
 use Rattle.halo_status.specs.Pay.{PlainPay}
-use Rattle.halo_status.specs.declared.pay.Kind.{Kind}
-use Rattle.halo_status.specs.declared.pay.Kind.TheVariants.{Insurance, Due, Immediate}
+use Rattle.halo_status.specs.declared.pay.Kind.TheVariants.{Insurance}
 use Rattle.halo_model.specs.Life.{AreLives}
 use Rattle.halo_model.specs.Outcome.{joint_survivors}
 use Rattle.halo_model.specs.Basis.{Basis, accumulated, taken}
-use Rattle.halo_contract.specs.declared.ties.Ties.{Ties}
-use Rattle.halo_contract.specs.declared.ties.Ties.TheVariants.{Even, Declared}
 use Rattle.halo_model.specs.Coefficient.{form}
-use Rattle.halo_model.specs.Counts.{form_weight, greatest_factor, measures_of, order_share, width_count}
+use Rattle.halo_model.specs.Counts.{form_weight, greatest_factor, measures_of, width_count}
 use Rattle.halo_model.specs.Horizon.{horizon}
 use Rattle.halo_model.specs.Segment.{last_time_of_form}
 use Rattle.halo_model.specs.Value.{denominator, numerator}
@@ -30,6 +27,7 @@ use Rattle.halo_model.proofs.Backward.{annuity-by-sets, sets-ext, survivors-spli
 use Rattle.halo_life.specs.Lists.{Lists, entry, nothing}
 use Rattle.halo_sums.specs.Within.{is_within}
 use Rattle.halo_life.specs.Total.{share, total_of}
+use Rattle.halo_along.proofs.Counting.{share-of-annuity}
 use Rattle.halo_annuity.specs.Worth.{HoldValues, waited}
 use Rattle.halo_annuity.proofs.Carried.{positive-both, positive-left}
 use Rattle.halo_annuity.proofs.Counting.{count-has-room, widths-together}
@@ -179,13 +177,6 @@ module _ (b : Basis) (pay : PlainPay) (plain : pay.mark ≡ None) (T n years : �
           let v = values mask below (part-named pay.body alive part are n mask below within) in
           rw within (record { near = omega (arith, ints, v.0.narrow.near, v.1.narrow.near) })
 
-pub share-of-ties : (ties : Ties) (kind : Kind) (named : ℕ) → kind ≢ Insurance → order_share ties kind named ≡ 1
-share-of-ties ties Insurance named annual = absurd (annual refl)
-share-of-ties Declared Due named annual = refl
-share-of-ties Even Due named annual = refl
-share-of-ties Declared Immediate named annual = refl
-share-of-ties Even Immediate named annual = refl
-
 -- the total encloses the value of the annuity
 pub total-encloses : (b : Basis) → AreLives b.lives
     → (pay : PlainPay) → pay.kind ≢ Insurance → pay.mark ≡ None → HasShortLists pay.body → HasPositiveRanks pay.body
@@ -231,7 +222,7 @@ total-narrow b pay annual plain one some_nodes some_years T n alive part are lis
       each,
       sum_over-scale masks (n + 2) (λ mask. waits mask),
       count-has-room n
-          (measures_of b pay) (sum_over masks waits) few some_nodes (share-of-ties b.ties pay.kind _ annual) within,
+          (measures_of b pay) (sum_over masks waits) few some_nodes (share-of-annuity b.ties pay.kind _ annual) within,
     ))
     (sum-narrow (share lists part) widths
     (2 ^ n) 0 (λ mask below. share-narrow b pay plain T n years lists values count alive part are mask (omega arith)))

@@ -19,11 +19,12 @@ use Rattle.halo_compile.specs.NamedSets.{AreNamed, IsNamedPart}
 use Rattle.halo_compile.specs.ValidTask.{IsTask}
 use Rattle.halo_compile.specs.declared.task.Task.{Task}
 use Rattle.halo_compile.specs.OfTask.{HaveSurvivorsAt, basis_of_task, pay_of_task}
+use Rattle.halo_along.proofs.Counting.{no-mark, some-nodes}
 use Rattle.halo_annuity.specs.AtTime.{EnclosesAnnuity, HoldAt}
 use Rattle.halo_annuity.specs.OfTask.{last_of_task}
 use Rattle.halo_annuity.proofs.Modest.{values-modest}
 use Rattle.halo_compile.proofs.Tasks.{count-lives, group-lives, interest-there, survivors-there}
-use Rattle.halo_annuity.proofs.TaskFacts.{last-in, modest-sets, no-mark, positive-ranks, some-nodes, some-years}
+use Rattle.halo_annuity.proofs.TaskFacts.{last-in, modest-sets, positive-ranks, some-years}
 use Rattle.halo_annuity.proofs.Totals.{total-encloses, total-narrow}
 
 -- an interval with the same ends encloses the same

@@ -1,14 +1,8 @@
 -- The values of an annuity at a time that a pass back from the horizon comes by.
-use Rattle.std.specs.Prelude.{◌≡◌, ℕ, suc, ◌-◌, true, pos}
+use Rattle.std.specs.Prelude.{ℕ, suc, ◌-◌, pos}
 use Rattle.halo_sums.specs.Masks.{has_bit}
 use Rattle.halo_num.specs.Ends.{Ends}
 use Rattle.halo_num.specs.Enclosure.{Encloses}
-use Rattle.halo_status.specs.Exists.{exists}
-use Rattle.halo_status.specs.Pay.{pay_of}
-use Rattle.halo_status.specs.View.{is_on}
-use Rattle.halo_status.specs.declared.pay.Kind.TheVariants.{Due}
-use Rattle.halo_status.specs.declared.pay.Vary.TheVariants.{Level}
-use Rattle.halo_status.specs.declared.view.View.TheVariants.{Due as DueView}
 use Rattle.halo_contract.specs.declared.ties.Ties.{Ties}
 use Rattle.halo_model.specs.Value.{denominator, numerator}
 use Rattle.halo_life.specs.Lists.{Lists}
@@ -33,11 +27,3 @@ pub record EnclosesAnnuity {n m : ℕ} (task : Task n m) (t alive : ℕ) (i : En
       let living = has_bit alive in
       Encloses i (pos (numerator b (pay_of_task task) t living)) (denominator b t living)
   pub narrow : IsWithinCount task i
-
--- an annuity-due, level and without deferral, pays at time t: its body exists then with the lives
--- of a set alive
-pub record PaysAtOnce {n m : ℕ} (task : Task n m) (t alive : ℕ) : Type 0 where
-  pub due : task.pay.now.kind ≡ Due
-  pub level : task.pay.now.vary ≡ Level
-  pub at_once : task.pay.now.defer ≡ 0
-  pub exists_then : exists (has_bit alive) (is_on DueView t) (pay_of task.pay.now).body ≡ true

@@ -4,14 +4,19 @@ ghost use Rattle.halo_num.specs.Ends.{fine};
 ghost use Rattle.halo_status.specs.declared.pay.Kind.TheVariants.{Insurance};
 ghost use Rattle.halo_life.specs.Total.{AreModestAt, total_of};
 ghost use Rattle.halo_status.specs.Pay.{pay_of};
+ghost use Rattle.halo_status.specs.ReadOnce.{IsReadOnce};
 ghost use Rattle.halo_compile.specs.NamedSets.{AreNamed, IsNamedPart, products_of_pass};
 ghost use Rattle.halo_compile.specs.ValidTask.{IsTask};
 ghost use Rattle.halo_compile.specs.OfTask.{HaveSurvivorsAt};
-ghost use Rattle.halo_annuity.specs.AtTime.{EnclosesAnnuity, HoldAt, PaysAtOnce};
+ghost use Rattle.halo_along.specs.Along.{products_along};
+ghost use Rattle.halo_along.specs.AtOnce.{PaysAtOnce};
+ghost use Rattle.halo_along.specs.OfTask.{tree_task_of};
+ghost use Rattle.halo_annuity.specs.AtTime.{EnclosesAnnuity, HoldAt};
 ghost use Rattle.halo_annuity.specs.Bounds.{IsWithinMost};
 
 use crate::step::{at_horizon, year_back};
 use crate::value::value_at;
+use halo_along::{TreeTask, annuity_along};
 use halo_compile::Task;
 use halo_life::Work;
 use halo_num::{Ival, Steps};
@@ -54,8 +59,11 @@ pub fn annuity_all<const N: usize, const M: usize, L: Ledger>(
 
 /// The value of an annuity of 1 at the start of the task's group, with the lives alive that the
 /// group says: no wider than its count, and from 0 to the most that it can be worth. Where an
-/// annuity-due, level and without deferral, pays at the start, it is at least 1. The counter is
-/// raised as by `annuity_all`.
+/// annuity-due, level and without deferral, pays at the start, it is at least 1.
+///
+/// Where no life stands in the body twice it is found along the tree of the body: with m nodes and
+/// a horizon of H years the counter is raised by at most 16 (H + 1) (m + 1)^2. Elsewhere it is
+/// found over all sets of lives, and the counter raised as by `annuity_all`.
 pub fn annuity<const N: usize, const M: usize, L: Ledger>(
     task: &Task<N, M>,
     work: &mut Work<M>,
@@ -67,7 +75,51 @@ pub fn annuity<const N: usize, const M: usize, L: Ledger>(
         EnclosesAnnuity task.now group.start group.alive result }
     ensures within { IsWithinMost task.now result }
     ensures one { let group = task.now.group.now in
-        PaysAtOnce task.now group.start group.alive → pos fine ≤ℤ result.lo }
+        PaysAtOnce task.now.pay.now group.start group.alive → pos fine ≤ℤ result.lo }
+    ensures along_tree { IsReadOnce (pay_of task.now.pay.now).body →
+        steps.new ≤ steps.old + products_along (tree_task_of task.now) }
+    ensures by_sets { (IsReadOnce (pay_of task.now.pay.now).body → ⊥) →
+        steps.new ≤ steps.old + products_of_pass task.now }
+{
+    if task.pay.body.read_once() {
+        along_tree(task, steps)
+    } else {
+        by_sets(task, work, steps)
+    }
+}
+
+// The value of the annuity along the tree of its body.
+fn along_tree<const N: usize, const M: usize, L: Ledger>(
+    task: &Task<N, M>,
+    steps: &mut Steps<L>,
+) -> Ival
+    requires task { IsTask task.now }
+    requires annuity { task.now.pay.now.kind ≢ Insurance }
+    requires once { IsReadOnce (pay_of task.now.pay.now).body }
+    ensures encloses { let group = task.now.group.now in
+        EnclosesAnnuity task.now group.start group.alive result }
+    ensures within { IsWithinMost task.now result }
+    ensures one { let group = task.now.group.now in
+        PaysAtOnce task.now.pay.now group.start group.alive → pos fine ≤ℤ result.lo }
+    ensures cost { steps.new ≤ steps.old + products_along (tree_task_of task.now) }
+{
+    let along = TreeTask::of(task);
+    annuity_along(&along, task.group.start(), task.group.alive(), steps)
+}
+
+// The value of the annuity over all sets of the lives that its body names.
+fn by_sets<const N: usize, const M: usize, L: Ledger>(
+    task: &Task<N, M>,
+    work: &mut Work<M>,
+    steps: &mut Steps<L>,
+) -> Ival
+    requires task { IsTask task.now }
+    requires annuity { task.now.pay.now.kind ≢ Insurance }
+    ensures encloses { let group = task.now.group.now in
+        EnclosesAnnuity task.now group.start group.alive result }
+    ensures within { IsWithinMost task.now result }
+    ensures one { let group = task.now.group.now in
+        PaysAtOnce task.now.pay.now group.start group.alive → pos fine ≤ℤ result.lo }
     ensures cost { steps.new ≤ steps.old + products_of_pass task.now }
 {
     annuity_all(task, work, steps);

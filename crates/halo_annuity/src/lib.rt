@@ -5,6 +5,9 @@
 //! and times the chance of the set to survive it. At the horizon nothing is left to be paid; one
 //! step gives the values of all these sets at a time by those a year later, whatever the time of
 //! the valuation. The value at a time on some living lives is the total over the sets within them.
+//!
+//! Where no life stands in a body twice, the value of one annuity needs no sets: `annuity` then
+//! finds it along the tree of the body.
 #![tactic(auto)]
 
 mod annuities;

@@ -40,6 +40,7 @@ enum Body {
     EitherOfTwo,
     TwoOfThree,
     SecondAfterFirst,
+    FirstWithEither,
 }
 
 // A status of the three lives.
@@ -51,10 +52,10 @@ fn status_of(alloc: Global, body: Body) -> Result<Status, Fail>
 {
     match body {
         Body::First => Ok(Status::Life(0)),
-        Body::FirstTwo => Ok(Status::Joint(first_two(alloc)?)),
-        Body::EitherOfTwo => Ok(Status::Last(first_two(alloc)?)),
+        Body::FirstTwo => Ok(Status::Joint(first_and(alloc, Status::Life(1))?)),
+        Body::EitherOfTwo => Ok(Status::Last(first_and(alloc, Status::Life(1))?)),
         Body::TwoOfThree => {
-            let mut lives = first_two(alloc)?;
+            let mut lives = first_and(alloc, Status::Life(1))?;
             lives.push(Status::Life(2))?;
             Ok(Status::AtLeast(2, lives))
         }
@@ -62,14 +63,19 @@ fn status_of(alloc: Global, body: Body) -> Result<Status, Fail>
             let first = boxed(alloc, Status::Life(0))?;
             Ok(Status::After(first, boxed(alloc, Status::Life(1))?))
         }
+        // The first life stands in it twice.
+        Body::FirstWithEither => {
+            let either = Status::Last(first_and(alloc, Status::Life(1))?);
+            Ok(Status::Joint(first_and(alloc, either)?))
+        }
     }
 }
 
-fn first_two(alloc: Global) -> Result<Members, Fail>
-    ensures { IfOk result (λ members. members ≡ Status.Life 0 ∷ Status.Life 1 ∷ []) }
+fn first_and(alloc: Global, second: Status) -> Result<Members, Fail>
+    ensures { IfOk result (λ members. members ≡ Status.Life 0 ∷ second ∷ []) }
 {
     let mut members = Members::new(alloc, Status::Life(0))?;
-    members.push(Status::Life(1))?;
+    members.push(second)?;
     Ok(members)
 }
 
@@ -187,6 +193,14 @@ fn assert_worked<L: Ledger>(rt: &impl Abort, alloc: Global, blank: Blank) -> Res
             0,
             Body::SecondAfterFirst,
             17_187_500,
+        ),
+        (
+            "ad[x:bar(x:y)]",
+            Kind::Due,
+            false,
+            0,
+            Body::FirstWithEither,
+            131_250_000,
         ),
         ("1|ad[x]", Kind::Due, false, 1, Body::First, 31_250_000),
         ("Iad[x]", Kind::Due, true, 0, Body::First, 168_750_000),

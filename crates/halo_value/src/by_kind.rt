@@ -4,7 +4,7 @@ ghost use Rattle.halo_num.specs.Ends.{fine};
 ghost use Rattle.halo_sums.specs.Masks.{has_bit};
 ghost use Rattle.halo_compile.specs.OfTask.{HaveSurvivorsAt};
 ghost use Rattle.halo_compile.specs.ValidTask.{IsTask};
-ghost use Rattle.halo_annuity.specs.AtTime.{PaysAtOnce};
+ghost use Rattle.halo_along.specs.AtOnce.{PaysAtOnce};
 ghost use Rattle.halo_value.specs.ByKind.{EnclosesTask, HoldOf};
 
 use halo_compile::Task;
@@ -60,7 +60,7 @@ pub fn value_at<const N: usize, const M: usize>(
     requires values { HoldOf task.now t work.now }
     requires alive { HaveSurvivorsAt task.now t alive }
     ensures encloses { EnclosesTask task.now t (has_bit alive) result }
-    ensures one { PaysAtOnce task.now t alive → pos fine ≤ℤ result.lo }
+    ensures one { PaysAtOnce task.now.pay.now t alive → pos fine ≤ℤ result.lo }
 {
     match task.pay.kind {
         Kind::Insurance => halo_insure::value_at(task, t, alive, work),

@@ -4,7 +4,7 @@ ghost use Rattle.halo_num.specs.Ends.{fine};
 ghost use Rattle.halo_status.specs.Pay.{pay_of};
 ghost use Rattle.halo_compile.specs.OfTask.{basis_of_task};
 ghost use Rattle.halo_compile.specs.ValidTask.{IsTask};
-ghost use Rattle.halo_annuity.specs.AtTime.{PaysAtOnce};
+ghost use Rattle.halo_along.specs.AtOnce.{PaysAtOnce};
 ghost use Rattle.halo_value.specs.PayValues.{AreValuesOf};
 ghost use Rattle.halo_value.specs.Reading.{CanBeRead};
 
@@ -48,7 +48,7 @@ pub fn pass<const N: usize, const M: usize, L: Ledger>(
         let basis = basis_of_task task.now task.now.group.now.ties in
         AreValuesOf basis reserves.now (pay_of task.now.pay.now) values) }
     ensures one { IfOk result (λ values.
-        PaysAtOnce task.now 0 ALL_LIVES → pos fine ≤ℤ values.start.lo) }
+        PaysAtOnce task.now.pay.now 0 ALL_LIVES → pos fine ≤ℤ values.start.lo) }
 {
     // The proof sees here that each life has a row at its age.
     let _start = task.group.start();

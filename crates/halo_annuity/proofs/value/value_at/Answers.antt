@@ -50,10 +50,10 @@ between-requires-clause-meets_most g c =
     (held-annuity task r.task group c.args.t r.time c.args.work.now r.values r.annuity interest
     c.args.alive part r.alive are) in
     meets-above c.total-total.result (numerator b (pay_of_task task) c.args.t (has_bit c.args.alive))
-    (denominator b c.args.t (has_bit c.args.alive)) c.most_worth.result
+    (denominator b c.args.t (has_bit c.args.alive)) c.most_of_annuity.result
     (some-denominator task group interest c.args.t c.args.alive r.alive) (held.encloses Declared)
-    (value-above task r.task group r.annuity Declared c.args.t r.time c.args.alive c.most_worth.result
-    c.most_worth.ensures.value)
+    (value-above task r.task group r.annuity Declared c.args.t r.time c.args.alive c.most_of_annuity.result
+    c.most_of_annuity.ensures.value)
 
 pub between-requires-clause-meets_least : goal.between-requires-clause-meets_least
 between-requires-clause-meets_least g c =
@@ -70,10 +70,10 @@ between-requires-clause-meets_least g c =
     (held-annuity task r.task group c.args.t r.time c.args.work.now r.values r.annuity interest
     c.args.alive part r.alive are) in
     meets-below c.total-total.result (numerator b (pay_of_task task) c.args.t (has_bit c.args.alive))
-    (denominator b c.args.t (has_bit c.args.alive)) c.least_worth.result
+    (denominator b c.args.t (has_bit c.args.alive)) c.least_of_annuity-least.result
     (some-denominator task group interest c.args.t c.args.alive r.alive) (held.encloses Declared)
-    (value-below task r.task group r.annuity Declared c.args.t r.time c.args.alive c.least_worth.result
-    c.least_worth.ensures.one)
+    (value-below task r.task group r.annuity Declared c.args.t r.time c.args.alive c.least_of_annuity-least.result
+    c.least_of_annuity-least.ensures.one)
 
 pub returns-clause-encloses : goal.returns-clause-encloses
 returns-clause-encloses g c =
@@ -92,10 +92,10 @@ returns-clause-encloses g c =
           c.between.ensures.encloses
           (numerator (basis_of_task task ties) (pay_of_task task) c.args.t (has_bit c.args.alive))
           (denominator (basis_of_task task ties) c.args.t (has_bit c.args.alive))
-          (value-above task r.task group r.annuity ties c.args.t r.time c.args.alive c.most_worth.result
-          c.most_worth.ensures.value)
-          (value-below task r.task group r.annuity ties c.args.t r.time c.args.alive c.least_worth.result
-          c.least_worth.ensures.one)
+          (value-above task r.task group r.annuity ties c.args.t r.time c.args.alive c.most_of_annuity.result
+          c.most_of_annuity.ensures.value)
+          (value-below task r.task group r.annuity ties c.args.t r.time c.args.alive c.least_of_annuity-least.result
+          c.least_of_annuity-least.ensures.one)
           (held.encloses ties);
       narrow = λ ties. c.between.ensures.narrow _ (held.narrow ties);
     }
@@ -103,9 +103,9 @@ returns-clause-encloses g c =
 pub returns-clause-within : goal.returns-clause-within
 returns-clause-within g c = λ ties.
     let task = c.args.task.now in
-    let most : c.most_worth.result
+    let most : c.most_of_annuity.result
     ≡ most_worth task.pay.now.kind (measures_of (basis_of_task task ties) (pay_of_task task)) =
-    c.most_worth.ensures.value
+    c.most_of_annuity.ensures.value
     ∙ sym (most-of-task task c.requires.task c.start-start.ensures.group c.requires.annuity ties) in
     let high = ap (λ (n : ℕ). n * fine) most in
     record {

@@ -1,9 +1,10 @@
 use Rattle.std.proofs.Common.{◌≡◌, ℕ, true, arith, lit<, subst, sym}
 use Rattle.halo_sums.specs.Masks.{has_bit}
 use Rattle.halo_compile.specs.OfTask.{HaveSurvivorsAt}
-use Rattle.halo_annuity.specs.AtTime.{EnclosesAnnuity, HoldAt, PaysAtOnce}
+use Rattle.halo_along.specs.AtOnce.{PaysAtOnce}
+use Rattle.halo_annuity.specs.AtTime.{EnclosesAnnuity, HoldAt}
 use Rattle.halo_compile.proofs.Living.{living-survive}
-use Rattle.halo_annuity.proofs.annuities.annuity.Goals as goal
+use Rattle.halo_annuity.proofs.annuities.by_sets.Goals as goal
 
 pub value_at-requires : goal.value_at-requires
 value_at-requires g c =
@@ -42,5 +43,5 @@ pub returns-clause-one : goal.returns-clause-one
 returns-clause-one g c = λ at_once.
     let task = c.args.task.now in
     c.value_at.ensures.one
-    (subst (λ (t : ℕ). PaysAtOnce task t c.alive.result) (sym c.start.ensures.value)
-    (subst (λ (alive : ℕ). PaysAtOnce task task.group.now.start alive) (sym c.alive.ensures.value) at_once))
+    (subst (λ (t : ℕ). PaysAtOnce task.pay.now t c.alive.result) (sym c.start.ensures.value)
+    (subst (λ (alive : ℕ). PaysAtOnce task.pay.now task.group.now.start alive) (sym c.alive.ensures.value) at_once))
