@@ -8,6 +8,8 @@ use Rattle.halo_num.specs.Enclosure.{Encloses}
 use Rattle.halo_num.proofs.Enclosures.{encloses_at, encloses_reduced}
 use Rattle.halo_sums.proofs.Integers.{mul_le_pos}
 use Rattle.halo_compile.proofs.Sums.{wider}
+use Rattle.halo_insure.specs.OneSet.{GoesBack}
+use Rattle.halo_insure.specs.declared.due.Due.{Due}
 
 -- a multiple of what is not above one
 pub multiple-bound : (r a : Ends) (count : ℕ) → r.hi ≡ int_max (a.lo *ℤ pos count) (a.hi *ℤ pos count)
@@ -79,3 +81,23 @@ year-narrow r due b w d from bound h = ⊎_elim
     (λ none. let e : due + b ≡ 0 = omega arith in nothing-narrow r _ from (rw e at bound))
     (λ some. wider r _ _ (back-narrow due b w d some) h)
     (cases_lt (due + b) 1)
+
+-- where nothing is due and nothing comes later, a year back it is exactly nothing
+pub nothing-back : (later leave survive discount r : Ends) (due : Due)
+    → pos 0 ≤ℤ later.lo → later.lo ≤ℤ later.hi → later.hi ≤ℤ pos 0 → due.on_leaving + due.at_end ≡ 0
+    → r.lo ≡ pos 0 → r.hi ≡ pos 0 → GoesBack later leave survive discount due r
+nothing-back later leave survive discount r due from order none nothing lo hi =
+    let last : later.hi ≡ pos 0 = omega (arith, ints, from, order, none) in
+    let on_leaving : due.on_leaving ≡ 0 = omega (arith, nothing) in
+    let at_end : due.at_end ≡ 0 = omega (arith, nothing) in
+    record {
+      from = omega (arith, ints, lo);
+      bound = λ m h. omega (arith, ints, hi);
+      narrow = λ m u e h p q s d. record { near = omega (arith, ints, lo, hi) };
+      encloses = λ left live start x rest q i l s d v ended.
+          let high = rw last at v.high in
+          let later_none : x ≡ 0 = omega (arith, ints, high) in
+          let all : q * ((due.on_leaving * left + due.at_end * live) * rest + x) ≡ 0 =
+          rw (on_leaving, at_end, later_none) (omega arith) in
+          rw all (record { low = rw lo (omega (arith, ints)); high = rw hi (omega (arith, ints)) });
+    }

@@ -1,10 +1,13 @@
 // What is due for a set of lives at the end of a year, by the coefficients of its form.
-ghost use Rattle.std.specs.Prelude.{◌≡◌, ◌+◌, ◌-◌, ◌*◌, ◌≤◌, cond, nat_le, ◌-ℤ◌};
+ghost use Rattle.std.specs.Prelude.{◌≡◌, ◌+◌, ◌-◌, ◌*◌, ◌≤◌, ◌↔◌, IsTrue, cond, nat_le, ◌-ℤ◌};
 ghost use Rattle.halo_num.specs.Ends.{IsSized};
+ghost use Rattle.halo_status.specs.ValidPay.{HasValidVary};
 ghost use Rattle.halo_model.specs.Backward.{above_zero, below_zero};
 ghost use Rattle.halo_model.specs.Payment.{factor};
 
-use halo_status::{Pay, Vary};
+use halo_compile::{MOST_PAID, factor};
+use halo_interest::LAST_TIME;
+use halo_status::Pay;
 
 /// What is due for a set at the end of a year: so many payments on a leaving, and so many on the
 /// end of a term if all of the set survive the year.
@@ -12,6 +15,15 @@ use halo_status::{Pay, Vary};
 pub(crate) struct Due {
     pub(crate) on_leaving: u32,
     pub(crate) at_end: u32,
+}
+
+impl Due {
+    /// Whether nothing is due.
+    pub(crate) fn is_nothing(self) -> bool
+        ensures { IsTrue result ↔ (self.on_leaving + self.at_end ≡ 0) }
+    {
+        self.on_leaving == 0 && self.at_end == 0
+    }
 }
 
 /// What a year pays, for each 1 of a coefficient: a payment on a leaving, and whether as much falls
@@ -50,26 +62,22 @@ fn below(coefficient: i64) -> u32
 
 /// What a pay of amount 1 pays for year `k`: nothing before the deferral, then its factor.
 pub(crate) fn payment_in(pay: &Pay, k: u16) -> u32
-    requires { k ≤ 200 }
+    requires time { k ≤ LAST_TIME }
+    requires vary { HasValidVary pay.now.vary }
     ensures payment { result ≡
         cond (nat_le pay.now.defer k) (factor pay.now.vary (k - pay.now.defer)) 0 }
-    ensures small { result ≤ 65535 }
+    ensures small { result ≤ MOST_PAID }
 {
     if k < pay.defer {
         return 0;
     }
-    let passed = k - pay.defer;
-    match pay.vary {
-        Vary::Level => 1,
-        Vary::Increasing => u32::from(passed) + 1,
-        Vary::Decreasing(n) => u32::from(n.saturating_sub(passed)),
-    }
+    u32::from(factor(pay.vary, k - pay.defer))
 }
 
 /// What is due in a year by the coefficients of one sign: `part` is the coefficient's part of that
 /// sign, and `lost` that of what the coefficient loses to the next year.
 fn due_from(year: YearPays, part: u32, lost: u32) -> Due
-    requires payment { year.payment ≤ 65535 }
+    requires payment { year.payment ≤ MOST_PAID }
     requires part { part ≤ 8192 }
     requires lost { lost ≤ 8192 }
     ensures on_leaving { result.on_leaving ≡ year.payment * part }
@@ -84,7 +92,7 @@ fn due_from(year: YearPays, part: u32, lost: u32) -> Due
 /// What is due in a year by the coefficients above 0, for a set with the coefficient `here` in it
 /// and `next` in the year after.
 pub(crate) fn due_above(year: YearPays, here: i64, next: i64) -> Due
-    requires payment { year.payment ≤ 65535 }
+    requires payment { year.payment ≤ MOST_PAID }
     requires here { IsSized here 4096 }
     requires next { IsSized next 4096 }
     ensures on_leaving { result.on_leaving ≡ year.payment * above_zero here }
@@ -95,7 +103,7 @@ pub(crate) fn due_above(year: YearPays, here: i64, next: i64) -> Due
 
 /// What is due in a year by the coefficients below 0.
 pub(crate) fn due_below(year: YearPays, here: i64, next: i64) -> Due
-    requires payment { year.payment ≤ 65535 }
+    requires payment { year.payment ≤ MOST_PAID }
     requires here { IsSized here 4096 }
     requires next { IsSized next 4096 }
     ensures on_leaving { result.on_leaving ≡ year.payment * below_zero here }

@@ -1,5 +1,5 @@
 // A year of the recursion: from what is due after it to what is due from its start on.
-ghost use Rattle.std.specs.Prelude.{◌≡◌, ℕ, ◌+◌, ◌*◌, ◌^◌, pos, ◌≤ℤ◌};
+ghost use Rattle.std.specs.Prelude.{◌≡◌, ℕ, ◌+◌, ◌*◌, ◌^◌, ◌≤◌, pos, ◌≤ℤ◌};
 ghost use Rattle.halo_num.specs.Ends.{HasWidth, IsWithin, fine};
 ghost use Rattle.halo_num.specs.Enclosure.{Encloses};
 ghost use Rattle.halo_insure.specs.OneSet.{GoesBack};
@@ -49,8 +49,30 @@ fn due_in_year(chances: &Chances, due: Due) -> Ival
 }
 
 /// The value at the start of a year of what is due at its end and of what comes `later`, which is
-/// told as its value at the end if all of the set survive.
+/// told as its value at the end if all of the set survive. Where both are nothing, as for a sign
+/// that no coefficient of the set has, there is nothing to multiply, and the result is exactly 0.
 pub(crate) fn value_back<L: Ledger>(
+    later: Ival,
+    chances: &Chances,
+    discount: Ival,
+    due: Due,
+    steps: &mut Steps<L>,
+) -> Ival
+    requires leaving { IsWithin chances.now.leaving (pos 0) (pos fine) }
+    requires survival { IsWithin chances.now.survival (pos 0) (pos fine) }
+    requires discount { IsWithin discount (pos 0) (pos fine) }
+    requires later { IsWithin later (pos 0) (pos (10 ^ 32)) }
+    ensures back { GoesBack later chances.now.leaving chances.now.survival discount due result }
+    ensures cost { steps.new ≤ steps.old + 2 }
+{
+    if later.hi() <= 0 && due.is_nothing() {
+        return Ival::exact(0);
+    }
+    due_and_later(later, chances, discount, due, steps)
+}
+
+// What is due and what comes later, if all of the set survive, discounted together.
+fn due_and_later<L: Ledger>(
     later: Ival,
     chances: &Chances,
     discount: Ival,

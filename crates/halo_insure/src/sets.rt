@@ -11,6 +11,7 @@ ghost use Rattle.halo_insure.specs.YearSets.{SetGoesBack, SetsGoBack, next_coeff
 
 use crate::due::{YearPays, due_above, due_below};
 use crate::one_year::{Chances, value_back};
+use halo_compile::MOST_PAID;
 use halo_life::Work;
 use halo_num::{Ival, Steps};
 use halo_poly::Poly;
@@ -65,7 +66,7 @@ fn set_back<const M: usize, L: Ledger>(
 )
     requires set { set < M }
     requires discount { IsWithin year.now.discount (pos 0) (pos fine) }
-    requires payment { year.now.pays.payment ≤ 65535 }
+    requires payment { year.now.pays.payment ≤ MOST_PAID }
     requires here { IsSized (coefficient_at year.now.here.now set) 4096 }
     requires next { IsSized (coefficient_at year.now.next.now set) 4096 }
     requires leaving { IsWithin (entry work.old.leavings set) (pos 0) (pos fine) }
@@ -80,7 +81,7 @@ fn set_back<const M: usize, L: Ledger>(
         × (entry work.new.minus mask ≡ entry work.old.minus mask) }
     ensures survivals { work.new.survivals ≡ work.old.survivals }
     ensures leavings { work.new.leavings ≡ work.old.leavings }
-    ensures cost { steps.new ≡ steps.old + 4 }
+    ensures cost { steps.new ≤ steps.old + 4 }
 {
     let here = year.here.coefficient(set);
     let next = next_coefficient(year, set);
@@ -97,7 +98,7 @@ fn set_back<const M: usize, L: Ledger>(
 
 /// Carries the values of all sets within `named` back by a year, and leaves those of all others.
 ///
-/// It makes four products for each set within `named`.
+/// It makes at most four products for each set within `named`.
 pub(crate) fn sets_back<const M: usize, L: Ledger>(
     work: &mut Work<M>,
     year: &Year<M>,
@@ -106,7 +107,7 @@ pub(crate) fn sets_back<const M: usize, L: Ledger>(
 )
     requires below { named < M }
     requires discount { IsWithin year.now.discount (pos 0) (pos fine) }
-    requires payment { year.now.pays.payment ≤ 65535 }
+    requires payment { year.now.pays.payment ≤ MOST_PAID }
     requires here { (mask : ℕ) → is_within mask named ≡ true →
         IsSized (coefficient_at year.now.here.now mask) 4096 }
     requires next { (mask : ℕ) → is_within mask named ≡ true →

@@ -42,8 +42,8 @@ pub fn at_horizon<const N: usize, const M: usize>(task: &Task<N, M>, work: &mut 
 /// The values of all sets of named lives at time `k`, by those at time k + 1. They do not depend on
 /// the time of the task's group, nor on who is alive then.
 ///
-/// The counter is raised by the products of the chances of the year, and by five for each set of
-/// the lives that the body names, whatever the number of lives.
+/// The counter is raised by the products of the chances of the year, and by at most five for each
+/// set of the lives that the body names, whatever the number of lives.
 pub fn year_back<const N: usize, const M: usize, L: Ledger>(
     task: &Task<N, M>,
     k: u16,
