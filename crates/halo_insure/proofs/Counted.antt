@@ -1,5 +1,5 @@
 -- The widths of all sets are within the count.
-use Rattle.std.proofs.Common.{◌≡◌, ◌⊎◌, ℕ, zero, suc, ◌+◌, ◌*◌, ◌-◌, ◌^◌, ◌<◌, ◌≤◌, arith, refl, ap, List, [], ◌∷◌, ◌++◌, length, map, Bool, true, false, cond, ◌&&◌, ◌||◌, nat_eq, nat_le, nat_lt, ℤ, neg_ℤ, ◌≤ℤ◌, pos, negsuc, ◌-ℤ◌, inl, inr, ⊎_elim, mul-le-mul_left, mul-le-mul_right}
+use Rattle.std.proofs.Common.{◌≡◌, ℕ, zero, suc, ◌+◌, ◌*◌, ◌-◌, ◌^◌, ◌<◌, ◌≤◌, arith, refl, ap, List, [], ◌∷◌, ◌++◌, length, map, Bool, true, false, cond, ◌&&◌, nat_le, nat_lt, ℤ, neg_ℤ, ◌≤ℤ◌, pos, negsuc, ◌-ℤ◌, ⊎_elim, mul-le-mul_left, mul-le-mul_right}
 use Rattle.std.proofs.lemmas.Bool.{cases_lt}
 use Rattle.std.proofs.lemmas.Nat.{mul-le}
 use Rattle.std.proofs.Math.Nat.{pow-suc, pow-zero}
@@ -8,25 +8,20 @@ use Rattle.std.proofs.lemmas.Int.{ints}
 use Rattle.halo_sums.specs.Sums.{numbers_from, sum_over}
 use Rattle.halo_sums.specs.Sets.{sets, size_of}
 use Rattle.halo_sums.proofs.Sums.{sum_over-add, sum_over-append, sum_over-map, sum_over-none, sum_over-scale, sum_over-swap}
-use Rattle.halo_status.specs.Naming.{any_names_life, names_life}
-use Rattle.halo_status.specs.Nodes.{nodes, nodes_in}
+use Rattle.halo_status.specs.Nodes.{nodes}
 use Rattle.halo_status.specs.Pay.{PlainPay}
-use Rattle.halo_status.specs.Tree.{Tree, Trees, life, term, joint, last, at_least, exactly, after, none, more}
-use Rattle.halo_status.specs.declared.pay.Kind.{Kind}
-use Rattle.halo_status.specs.declared.pay.Kind.TheVariants.{Insurance, Immediate, Due}
-use Rattle.halo_status.specs.declared.pay.Vary.{Vary}
-use Rattle.halo_status.specs.declared.pay.Vary.TheVariants.{Level, Increasing, Decreasing}
 use Rattle.halo_model.specs.Basis.{Basis}
 use Rattle.halo_model.specs.Chance.{IsValidInsurance}
 use Rattle.halo_model.specs.Coefficient.{form}
 use Rattle.halo_model.specs.Counts.{form_weight, greatest, greatest_factor, lives_named, order_share, size, width_count}
-use Rattle.halo_contract.specs.declared.ties.Ties.{Ties}
-use Rattle.halo_contract.specs.declared.ties.Ties.TheVariants.{Even, Declared}
 use Rattle.halo_model.specs.Horizon.{horizon}
-use Rattle.halo_model.specs.Payment.{factor, payment}
+use Rattle.halo_model.specs.Payment.{payment}
 use Rattle.halo_model.specs.Segment.{coefficients_at, first_time}
 use Rattle.halo_model.specs.SetValue.{SomeEvents}
 use Rattle.halo_model.specs.Backward.{above_zero, below_zero}
+use Rattle.halo_along.proofs.Counting.{cond-within, factor-within}
+use Rattle.halo_along.proofs.InsuredWhole.{share-some}
+use Rattle.halo_along.proofs.NamedLives.{named-most}
 use Rattle.halo_insure.specs.Dues.{SetsWithinCount, coefficient_before, due_by_both, due_of, ends_count}
 use Rattle.halo_insure.proofs.Silent.{few-or-none}
 use Rattle.halo_compile.proofs.Coefficients.{parts-size}
@@ -75,67 +70,7 @@ difference-size y z = size-most (y -ℤ z)
     (size y + size z) (omega (arith, ints, size-high y, size-low z)) (omega (arith, ints, size-low y, size-high z))
 
 cond-most : (b : Bool) (n : ℕ) → cond b n 0 ≤ n
-cond-most true n = omega arith
-cond-most false n = omega arith
-
-factor-most : (vary : Vary) (years passed : ℕ) → passed < years → factor vary passed ≤ greatest_factor vary years
-factor-most Level years passed h = omega arith
-factor-most Increasing years passed h = omega arith
-factor-most (Decreasing n) years passed h = omega arith
-
-none-named : (n first : ℕ) → sum_over (numbers_from first n) (λ i. cond false 1 0) ≤ 0
-none-named zero first = omega arith
-none-named (suc n) first = omega (arith, none-named n (suc first))
-
-either : (a b : Bool) → cond (a || b) 1 0 ≤ cond a 1 0 + cond b 1 0
-either true b = omega arith
-either false b = omega arith
-
-either-most : (n first : ℕ) (a b : ℕ → Bool) → sum_over (numbers_from first n) (λ i. cond (a i || b i) 1 0)
-    ≤ sum_over (numbers_from first n) (λ i. cond (a i) 1 0) + sum_over (numbers_from first n) (λ i. cond (b i) 1 0)
-either-most zero first a b = omega arith
-either-most (suc n) first a b = omega (arith, either (a first) (b first), either-most n (suc first) a b)
-
-not-named : (n first i : ℕ) → i < first → sum_over (numbers_from first n) (λ k. cond (nat_eq k i) 1 0) ≤ 0
-not-named zero first i h = omega arith
-not-named (suc n) first i h = let e : nat_eq first i ≡ false = grind (arith, nat_tests) in
-    rw e (omega (arith, not-named n (suc first) i (omega arith)))
-
-one-named : (n first i : ℕ) → sum_over (numbers_from first n) (λ k. cond (nat_eq k i) 1 0) ≤ 1
-one-named zero first i = omega arith
-one-named (suc n) first i = ⊎_elim
-    (λ same. let e : first ≡ i = same.1 in rw (same.0) (omega (arith, not-named n (suc first) i (omega arith))))
-    (λ apart. rw (apart.0) (omega (arith, one-named n (suc first) i)))
-    (tells (nat_eq first i) refl)
-  where
-    tells : (b : Bool)
-        → nat_eq first i ≡ b → ((nat_eq first i ≡ true) × (first ≡ i)) ⊎ ((nat_eq first i ≡ false) × Unit {0})
-    tells true e = inl (e, grind (arith, nat_tests))
-    tells false e = inr (e, tt)
-
--- a body has at least as many nodes as it names lives
-mutual
-  named-most : (n : ℕ) (body : Tree) → (lives_named n body ≤ nodes body) × (1 ≤ nodes body)
-  named-most n (life i) = (one-named n 0 i, omega arith)
-  named-most n (term k) = (omega (arith, none-named n 0), omega arith)
-  named-most n (joint ms) = (omega (arith, any-most n ms), omega arith)
-  named-most n (last ms) = (omega (arith, any-most n ms), omega arith)
-  named-most n (at_least r ms) = (omega (arith, any-most n ms), omega arith)
-  named-most n (exactly r ms) = (omega (arith, any-most n ms), omega arith)
-  named-most n (after s t) = (
-    omega (
-      arith,
-      either-most n 0 (λ i. names_life i s) (λ i. names_life i t),
-      (named-most n s).0,
-      (named-most n t).0,
-    ),
-    omega arith,
-  )
-
-  any-most : (n : ℕ) (ms : Trees) → sum_over (numbers_from 0 n) (λ i. cond (any_names_life i ms) 1 0) ≤ nodes_in ms
-  any-most n none = omega (arith, none-named n 0)
-  any-most n (more s ms) =
-      omega (arith, either-most n 0 (λ i. names_life i s) (λ i. any_names_life i ms), (named-most n s).0, any-most n ms)
+cond-most b n = cond-within b n n (omega arith)
 
 square : (n : ℕ) → n ^ 2 ≡ n * n
 square n =
@@ -159,17 +94,6 @@ room m n H h G f share named some years once =
     let w : 6 * (m + 1) ^ 2 * ((H + 1) * (H + n + 3)) * (G * f) * 1 ≤ 6 * (m + 1) ^ 2 * ((H + 1) * (H + n + 3))
     * (G * f) * share = mul-le-mul_left (6 * (m + 1) ^ 2 * ((H + 1) * (H + n + 3)) * (G * f)) once in
     omega (arith, z, w)
-
--- each order of the lives has its share
-some-share : (ties : Ties) (kind : Kind) (named : ℕ) → 1 ≤ order_share ties kind named
-some-share Declared kind named = omega arith
-some-share Even Insurance named = pow-pos (named + 1)
-  where
-    pow-pos : (n : ℕ) → 1 ≤ 2 ^ n
-    pow-pos zero = rw (pow-zero 2) (omega arith)
-    pow-pos (suc n) = rw (pow-suc 2 n) (omega (arith, pow-pos n))
-some-share Even Due named = omega arith
-some-share Even Immediate named = omega arith
 
 module _
     (b : Basis) (pay : PlainPay) (is : IsValidInsurance pay) (one : pay.amount ≡ 1) (events : SomeEvents) (T : ℕ) where
@@ -196,7 +120,7 @@ module _
       + ((due_of below_zero pay events H s j).on_leaving + (due_of below_zero pay events H s j).at_end)
 
   paid-most : (j : ℕ) → j < H → payment pay (j - pay.defer) ≤ f
-  paid-most j h = rw one (omega (arith, factor-most pay.vary H (j - pay.defer) (omega arith)))
+  paid-most j h = rw one (omega (arith, factor-within pay.vary (j - pay.defer) H (omega arith)))
 
   -- what is due in a year is at most the greatest factor for each coefficient
   term-most : (s : List Bool) (j : ℕ) → j < H → term_of s j ≤ f * weigh s j
@@ -343,5 +267,5 @@ sets-within-count b pay is one events T =
     mul-le-mul_left h all in
     let named = named-most (length b.lives) pay.body in
     let enough = room (nodes pay.body) n years h G f
-    (order_share b.ties pay.kind n) named.0 named.1 (omega arith) (some-share b.ties pay.kind n) in
+    (order_share b.ties pay.kind n) named.0 named.1 (omega arith) (share-some b.ties pay.kind n) in
     omega (arith, bound, scaled, times, enough)

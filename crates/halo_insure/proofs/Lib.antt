@@ -15,3 +15,4 @@ pub mod WorthOn
 pub mod PartTotals
 pub mod Passes
 pub mod SomeLeave
+pub mod TreeTasks

@@ -1,48 +1,33 @@
 -- The total of what is due for all sets on some events encloses what falls on them.
-use Rattle.std.proofs.Common.{◌≡◌, ℕ, ◌*◌, ◌^◌, ◌≤◌, arith, refl, ap, sym, ◌∙◌, subst, length, Bool, ℤ, pos}
+use Rattle.std.proofs.Common.{◌≡◌, ℕ, ◌*◌, ◌^◌, ◌≤◌, arith, refl, ap, sym, ◌∙◌, subst, length, ℤ}
 use Rattle.std.proofs.lemmas.Int.{ints}
 use Rattle.halo_sums.specs.Masks.{has_bit}
 use Rattle.halo_num.specs.Ends.{Ends, HasWidth}
 use Rattle.halo_num.specs.Enclosure.{Encloses}
-use Rattle.halo_status.specs.Pay.{PlainPay}
+use Rattle.halo_status.specs.Pay.{PlainPay, pay_of}
 use Rattle.halo_status.specs.declared.pay.Kind.TheVariants.{Insurance}
 use Rattle.halo_model.specs.Basis.{Basis}
 use Rattle.halo_model.specs.Counts.{greatest_factor, measures_of, width_count}
 use Rattle.halo_model.specs.OnePayment.{IsBetween}
 use Rattle.halo_model.specs.Horizon.{horizon}
 use Rattle.halo_model.specs.Value.{denominator}
-use Rattle.halo_life.specs.Lists.{Lists, nothing}
+use Rattle.halo_life.specs.Lists.{Lists}
 use Rattle.halo_life.specs.PlainGroup.{IsGroup}
 use Rattle.halo_life.specs.Total.{total_of}
 use Rattle.halo_compile.specs.NamedSets.{IsNamedPart}
 use Rattle.halo_compile.specs.OfTask.{pay_of_task}
 use Rattle.halo_compile.specs.ValidTask.{IsTask}
 use Rattle.halo_compile.specs.declared.task.Task.{Task}
+use Rattle.halo_along.proofs.InsuredWhole.{group-ends}
+use Rattle.halo_along.proofs.OneLeaving.{unit-valid}
+use Rattle.halo_along.proofs.PartsAlong.{IsPart}
 use Rattle.halo_insure.specs.declared.events.Events.{Events}
 use Rattle.halo_insure.specs.Events.{AreEventsOf, events_of, worth_on}
 use Rattle.halo_insure.specs.OfTask.{HoldDuesOn, insured_basis}
-use Rattle.halo_insure.specs.Parts.{EnclosesPartOfOne}
 use Rattle.halo_insure.specs.Total.{HoldDues}
 use Rattle.halo_insure.proofs.WorthOn.{IsUpTo, up-to, worth-bounded, worth-by-sets}
-use Rattle.halo_insure.proofs.Tasks.{are-lives, end-by, lives-of-task, unit-valid}
+use Rattle.halo_insure.proofs.Tasks.{are-lives, lives-of-task}
 use Rattle.halo_insure.proofs.Total.{total-within-count, worth-enclosed}
-
--- nothing is enclosed by 0, which is within all bounds
-pub none-enclosed : (b : Basis) (pay : PlainPay) (T : ℕ) (S : ℕ → Bool) (part : ℤ) (i : Ends)
-    → part ≡ pos 0 → i ≡ nothing → EnclosesPartOfOne b pay T S part i
-none-enclosed b pay T S part i none is = rw (none, is) (record {
-  encloses = record { low = omega (arith, ints); high = omega (arith, ints) };
-  narrow = record { near = omega (arith, ints) };
-  within = record { low = omega (arith, ints); high = omega (arith, ints) };
-})
-
--- i encloses a part that is a natural number and at most so much, within the count of an insurance
-pub record IsTotal (b : Basis) (pay : PlainPay) (T alive most : ℕ) (part : ℤ) (i : Ends) : Type 0 where
-  pub number : ℕ
-  pub is : part ≡ pos number
-  pub bound : number ≤ most * denominator b T (has_bit alive)
-  pub encloses : Encloses i (pos number) (denominator b T (has_bit alive))
-  pub narrow : HasWidth i (width_count (measures_of b pay))
 
 module _ {n m : ℕ} (task : Task n m) (is : IsTask task)
     (group : IsGroup n task.group.now) (kind : task.pay.now.kind ≡ Insurance)
@@ -66,20 +51,20 @@ module _ {n m : ℕ} (task : Task n m) (is : IsTask task)
       ap (greatest_factor task.pay.now.vary) (sym is.horizon_is) ∙ sym e in
       up-to (most * denominator b t (has_bit alive)) part
       (subst (λ (k : ℕ). IsBetween 0 (k * denominator b t (has_bit alive)) part) same
-      (worth-bounded b (are-lives task group) (end-by task group) (omega arith)
-      pay (unit-valid task is kind) t refl events there-in-basis (has_bit alive)))
+      (worth-bounded b (are-lives task group) (group-ends n task.group.now group) (omega arith)
+      pay (unit-valid (pay_of task.pay.now) is.valid kind) t refl events there-in-basis (has_bit alive)))
 
   pub total-is : (named : ℕ) → IsNamedPart pay.body alive named
       → (lists : Lists) (i : Ends) (most : ℕ) → HoldDuesOn task (events_of events) t lists
       → i.lo ≡ (total_of lists m named).lo → i.hi ≡ (total_of lists m named).hi
-      → most ≡ greatest_factor task.pay.now.vary task.horizon → IsTotal b pay t alive most part i
+      → most ≡ greatest_factor task.pay.now.vary task.horizon → IsPart b pay t (has_bit alive) most part i
   total-is named are lists i most held lo hi e =
       let count = lives-of-task task group in
-      let valid = unit-valid task is kind in
+      let valid = unit-valid (pay_of task.pay.now) is.valid kind in
       let in_time : horizon b.lives pay.body ≤ b.last_time = rw (← is.horizon_is) is.horizon_in in
       let dues = subst (λ (k : ℕ). HoldDues b pay (events_of events) k t lists) (sym count) held in
       let sets : 2 ^ length b.lives ≡ m = ap (λ (k : ℕ). 2 ^ k) count ∙ sym is.sets in
-      let by_sets = worth-by-sets b (are-lives task group) (end-by task group)
+      let by_sets = worth-by-sets b (are-lives task group) (group-ends n task.group.now group)
       (omega arith) pay valid t events there-in-basis alive in
       let encloses = subst (λ (k : ℕ). Encloses (total_of lists k named) part (denominator b t (has_bit alive))) sets
       (worth-enclosed b (are-lives task group) pay valid in_time (events_of events) t lists dues alive named are

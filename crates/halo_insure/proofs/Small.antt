@@ -21,6 +21,7 @@ use Rattle.halo_life.specs.Lists.{Lists}
 use Rattle.halo_life.specs.Total.{AreModestAt}
 use Rattle.halo_compile.specs.NamedSets.{AreNamed}
 use Rattle.halo_compile.proofs.Coefficients.{above-sized, below-sized, coefficient-sized}
+use Rattle.halo_along.proofs.Counting.{cond-within}
 use Rattle.halo_insure.specs.Dues.{coefficient_before, due_of, ends_count}
 use Rattle.halo_insure.specs.OneSet.{most_due}
 use Rattle.halo_insure.specs.Total.{HoldDues}
@@ -29,10 +30,6 @@ factor-small : (vary : Vary) (passed : ℕ) → HasValidVary vary → passed ≤
 factor-small Level passed h few = omega arith
 factor-small Increasing passed h few = omega (arith, few)
 factor-small (Decreasing n) passed h few = omega (arith, h.1)
-
-cond-most : (b : Bool) (n c : ℕ) → n ≤ c → cond b n 0 ≤ c
-cond-most true n c h = h
-cond-most false n c h = omega arith
 
 -- no more is due for a set in a year than 201 times its coefficient and what that can lose
 module _ (part : ℤ → ℕ) (sized : (z : ℤ) (n : ℕ) → IsSized z n → part z ≤ n) (pay : PlainPay) (one : pay.amount ≡ 1)
@@ -62,8 +59,8 @@ module _ (part : ℤ → ℕ) (sized : (z : ℤ) (n : ℕ) → IsSized z n → p
       (2 ^ 12) (paid-small k h) (sized _ (2 ^ 12) (lost-sized k)) in
       omega (
         arith,
-        cond-most (nat_le pay.defer k) (payment pay (k - pay.defer) * part (form pay k s)) (201 * 2 ^ 11) now,
-        cond-most (nat_le pay.defer k && ends_count pay events (suc k))
+        cond-within (nat_le pay.defer k) (payment pay (k - pay.defer) * part (form pay k s)) (201 * 2 ^ 11) now,
+        cond-within (nat_le pay.defer k && ends_count pay events (suc k))
             (payment pay (k - pay.defer) * part (form pay k s -ℤ coefficient_before pay years (suc k) s))
             (201 * 2 ^ 12) end,
       )

@@ -28,7 +28,7 @@ use Rattle.halo_model.proofs.NoFall.{no-chance-on-end, no-chance-on-leaving}
 use Rattle.halo_insure.specs.declared.events.Events.{Events}
 use Rattle.halo_insure.specs.declared.events.Events.TheVariants.{Every, Leaving, End}
 use Rattle.halo_insure.specs.Events.{AreEventsOf, events_of, worth_on}
-use Rattle.halo_insure.specs.Parts.{worth_on_end, worth_on_leaving}
+use Rattle.halo_along.specs.Parts.{worth_on_end, worth_on_leaving}
 use Rattle.halo_insure.proofs.Total.{numerator-agree, outcomes-agree}
 
 module _ (b : Basis) (rule : AreLives b.lives) (end : EndBy b.last_time b.lives) (in_time : LAST_TIME ≤ b.last_time)

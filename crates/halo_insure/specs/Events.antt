@@ -7,7 +7,7 @@ use Rattle.halo_model.specs.SetValue.{SomeEvents, all_events, end_of_term, leavi
 use Rattle.halo_model.specs.Value.{numerator}
 use Rattle.halo_insure.specs.declared.events.Events.{Events}
 use Rattle.halo_insure.specs.declared.events.Events.TheVariants.{Every, Leaving, End}
-use Rattle.halo_insure.specs.Parts.{worth_on_end, worth_on_leaving}
+use Rattle.halo_along.specs.Parts.{worth_on_end, worth_on_leaving}
 
 -- which events they are
 abbrev pub events_of : Events → SomeEvents

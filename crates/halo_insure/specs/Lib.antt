@@ -5,4 +5,5 @@ pub mod Total
 pub mod OfTask
 pub mod YearSets
 pub mod Parts
+pub mod Along
 pub mod Events

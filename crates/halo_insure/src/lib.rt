@@ -5,8 +5,12 @@
 //! comes after are discounted together. One pass from the horizon back gives the values of all sets
 //! of the lives that a body names at each time, and the value for some lives alive is the sum over
 //! the sets within them.
+//!
+//! Where no life stands in a body twice, a value at one time goes along the tree of the body
+//! instead, if the tree can tell it: it needs no sums over sets of lives.
 #![tactic(auto)]
 
+mod along;
 mod due;
 mod events;
 pub mod laws;

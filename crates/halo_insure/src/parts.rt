@@ -7,14 +7,20 @@ ghost use Rattle.halo_life.specs.Lists.{nothing};
 ghost use Rattle.halo_model.specs.SetValue.{can_fall_on_life, can_fall_on_term};
 ghost use Rattle.halo_compile.specs.ValidTask.{IsTask};
 ghost use Rattle.halo_compile.specs.OfTask.{pay_of_task};
+ghost use Rattle.halo_along.specs.Along.{products_along};
+ghost use Rattle.halo_along.specs.OfTask.{tree_task_of};
+ghost use Rattle.halo_along.specs.Parts.{EnclosesPartOfOne};
+ghost use Rattle.halo_insure.specs.Along.{PartsGoAlong};
 ghost use Rattle.halo_insure.specs.Events.{AreEventsOf, worth_on};
 ghost use Rattle.halo_compile.specs.NamedSets.{products_of_pass};
 ghost use Rattle.halo_insure.specs.OfTask.{insured_basis};
-ghost use Rattle.halo_insure.specs.Parts.{EnclosesEnd, EnclosesLeaving, EnclosesPartOfOne};
+ghost use Rattle.halo_insure.specs.Parts.{EnclosesEnd, EnclosesLeaving};
 
+use crate::along::parts_go_along;
 use crate::events::Events;
 use crate::pass::pass;
 use crate::value::worth_at;
+use halo_along::{TreeTask, on_life_along, on_term_along};
 use halo_compile::{Task, can_fall_on_term, failing_lives};
 use halo_interest::LAST_TIME;
 use halo_life::Work;
@@ -26,8 +32,12 @@ use std::sync::ledger::Ledger;
 /// task's group with the lives alive that it says, by its rule for ties.
 ///
 /// It is no wider than the count of the insurance, and from 0 to the most that it can be worth;
-/// where no payment can fall on that leaving it is exactly 0. It takes one pass over the years,
-/// which raises the counter as `insurance_all` does.
+/// where no payment can fall on that leaving it is exactly 0.
+///
+/// Where no life stands in the body twice and the lives of one year leave in the declared order, it
+/// goes along the tree of the body: with m nodes and a horizon of H years the counter is raised by
+/// at most 16 (H + 1) (m + 1)^2. Else it takes one pass over the years, which raises the counter as
+/// `insurance_all` does.
 pub fn on_life<const N: usize, const M: usize, L: Ledger>(
     task: &Task<N, M>,
     life: u8,
@@ -41,12 +51,18 @@ pub fn on_life<const N: usize, const M: usize, L: Ledger>(
         EnclosesLeaving (insured_basis task.now) (pay_of_task task.now)
         group.start (has_bit group.alive) life result }
     ensures none { can_fall_on_life (pay_of_task task.now) life ≡ false → result ≡ nothing }
-    ensures cost { steps.new ≤ steps.old + products_of_pass task.now }
+    ensures along_tree { PartsGoAlong task.now →
+        steps.new ≤ steps.old + products_along (tree_task_of task.now) }
+    ensures by_sets { (PartsGoAlong task.now → ⊥) →
+        steps.new ≤ steps.old + products_of_pass task.now }
 {
     // The proof sees here that there are few lives.
     let _start = task.group.start();
     if !has_bit(failing_lives(task.pay), life) {
         return Ival::exact(0);
+    }
+    if parts_go_along(task) {
+        return on_life_along(&TreeTask::of(task), life, steps);
     }
     worth_on(task, Events::Leaving(life), work, steps)
 }
@@ -67,17 +83,24 @@ pub fn on_term<const N: usize, const M: usize, L: Ledger>(
         EnclosesEnd (insured_basis task.now) (pay_of_task task.now)
         group.start (has_bit group.alive) n result }
     ensures none { can_fall_on_term (pay_of_task task.now) n ≡ false → result ≡ nothing }
-    ensures cost { steps.new ≤ steps.old + products_of_pass task.now }
+    ensures along_tree { PartsGoAlong task.now →
+        steps.new ≤ steps.old + products_along (tree_task_of task.now) }
+    ensures by_sets { (PartsGoAlong task.now → ⊥) →
+        steps.new ≤ steps.old + products_of_pass task.now }
 {
     // The proof sees here that there are few lives.
     let _start = task.group.start();
     if !can_fall_on_term(task.pay, n) {
         return Ival::exact(0);
     }
+    if parts_go_along(task) {
+        return on_term_along(&TreeTask::of(task), n, steps);
+    }
     worth_on(task, Events::End(n), work, steps)
 }
 
-// What falls on some events, at the start of the task's group with the lives alive that it says.
+// What falls on some events, at the start of the task's group with the lives alive that it says, by
+// one pass over the years for all sets of the lives that the body names.
 fn worth_on<const N: usize, const M: usize, L: Ledger>(
     task: &Task<N, M>,
     events: Events,

@@ -43,6 +43,7 @@ const HUNDRED_MILLIONTH: i128 = 10_000_000_000;
 enum Body {
     First,
     Both,
+    FirstTwice,
     FirstForTwoYears,
 }
 
@@ -74,6 +75,7 @@ fn status_of(alloc: Global, body: Body) -> Result<Status, Fail>
     match body {
         Body::First => Ok(Status::Life(0)),
         Body::Both => Ok(Status::Joint(first_and(alloc, Status::Life(1))?)),
+        Body::FirstTwice => Ok(Status::Joint(first_and(alloc, Status::Life(0))?)),
         Body::FirstForTwoYears => Ok(Status::Joint(first_and(alloc, Status::Term(2))?)),
     }
 }
@@ -261,7 +263,7 @@ fn first_death_of_eight(alloc: Global) -> Result<Pay, Fail>
     })
 }
 
-// One pass tells of each set of eight lives what a pass for that set alone tells.
+// One pass tells of each set of eight lives what the tree of the body tells for that set.
 fn assert_all_sets<L: Ledger>(
     rt: &impl Abort,
     alloc: Global,
@@ -335,6 +337,7 @@ fn assert_parts<L: Ledger>(
 ) -> Result<(), Fail> {
     use Asked::{OnLife, OnTerm, Unmarked};
     let two_years = Body::FirstForTwoYears;
+    let twice = Body::FirstTwice;
     let cases = [
         ("A[x:<2>] on x", two_years, OnLife(0), 31_250_000),
         ("A[x:<2>] on y", two_years, OnLife(1), 0),
@@ -343,6 +346,9 @@ fn assert_parts<L: Ledger>(
         ("A[x:<2>] in all", two_years, Unmarked, 37_500_000),
         ("A[x:y] on x", Body::Both, OnLife(0), 28_906_250),
         ("A[x:y] on y", Body::Both, OnLife(1), 14_062_500),
+        ("A[x:x] in all", twice, Unmarked, 34_375_000),
+        ("A[x:x] on x", twice, OnLife(0), 34_375_000),
+        ("A[x:x] on no term", twice, OnTerm(2), 0),
     ];
     for (name, body, asked, worth) in cases {
         let pay = insurance_on(rt, alloc, false, 0, By::AnyCause, body)?;
@@ -412,12 +418,14 @@ fn assert_even<L: Ledger>(
     let on_first = insurance_on(rt, alloc, false, 0, By::AnyCause, Body::First)?;
     let value = value_of(rt, alloc, group, interest, &on_first, Asked::Years, steps)?;
     assert_worth(rt, "A[x] with even ties", value, 34_375_000);
-    for (name, member) in [
-        ("A[x^1:y] with even ties", 0),
-        ("A[x:y^1] with even ties", 1),
+    for (name, member, asked) in [
+        ("A[x^1:y] with even ties", 0, Asked::Years),
+        ("A[x^1:y] in one call with even ties", 0, Asked::Whole),
+        ("A[x^1:y] on x with even ties", 0, Asked::OnLife(0)),
+        ("A[x:y^1] with even ties", 1, Asked::Years),
     ] {
         let pay = insurance_at(rt, alloc, member, 1)?;
-        let value = value_of(rt, alloc, group, interest, &pay, Asked::Years, steps)?;
+        let value = value_of(rt, alloc, group, interest, &pay, asked, steps)?;
         assert_worth(rt, name, value, 21_484_375);
     }
     let on_both = insurance_on(rt, alloc, false, 0, By::AnyCause, Body::Both)?;

@@ -6,9 +6,9 @@ ghost use Rattle.halo_sums.specs.Masks.{has_bit};
 ghost use Rattle.halo_model.specs.Enclosed.{EnclosesOne};
 ghost use Rattle.halo_compile.specs.ValidTask.{IsTask};
 ghost use Rattle.halo_compile.specs.OfTask.{HaveSurvivorsAt, pay_of_task};
+ghost use Rattle.halo_along.specs.Parts.{EnclosesPartOfOne};
 ghost use Rattle.halo_insure.specs.Events.{AreEventsOf, events_of, worth_on};
 ghost use Rattle.halo_insure.specs.OfTask.{HoldDuesAt, HoldDuesOn, insured_basis};
-ghost use Rattle.halo_insure.specs.Parts.{EnclosesPartOfOne};
 
 use crate::events::Events;
 use halo_compile::{Task, between, greatest_factor};

@@ -29,7 +29,8 @@ use Rattle.halo_compile.specs.OfTask.{basis_of_task}
 use Rattle.halo_compile.specs.ValidTask.{IsTask}
 use Rattle.halo_compile.specs.declared.task.Task.{Task}
 use Rattle.halo_compile.proofs.Tasks.{count-lives}
-use Rattle.halo_insure.specs.Parts.{EnclosesEnd, EnclosesLeaving, EnclosesPartOfOne, worth_on_end, worth_on_leaving}
+use Rattle.halo_along.specs.Parts.{EnclosesPartOfOne, worth_on_end, worth_on_leaving}
+use Rattle.halo_insure.specs.Parts.{EnclosesEnd, EnclosesLeaving}
 use Rattle.halo_lines.specs.Printable.{IsPrintable}
 use Rattle.halo_lines.specs.declared.parts.Part.{Part}
 use Rattle.halo_lines.specs.declared.parts.Part.TheVariants as part

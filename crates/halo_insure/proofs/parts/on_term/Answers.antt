@@ -1,10 +1,9 @@
 use Rattle.std.proofs.Common.{◌≡◌, ◌∙◌, arith, false, sym}
 use Rattle.halo_model.specs.SetValue.{can_fall_on_term}
 use Rattle.halo_sums.specs.Masks.{has_bit}
-use Rattle.halo_life.specs.Lists.{nothing}
 use Rattle.halo_compile.specs.OfTask.{pay_of_task}
 use Rattle.halo_insure.specs.OfTask.{insured_basis}
-use Rattle.halo_insure.proofs.PartTotals.{none-enclosed}
+use Rattle.halo_along.proofs.PartsAlong.{none-enclosed}
 use Rattle.halo_insure.proofs.WorthOn.{none-on-end}
 use Rattle.halo_insure.proofs.parts.on_term.Goals as goal
 
@@ -14,6 +13,6 @@ returns-then-not-can_fall_on_term-clause-encloses g c =
     let b = insured_basis task in
     let silent : can_fall_on_term (pay_of_task task) c.args.n ≡ false =
     sym c.can_fall_on_term.ensures ∙ grind (arith, c.if-not-can_fall_on_term.true) in
-    let none : c.exact.result ≡ nothing = grind (arith, c.exact.ensures.lo, c.exact.ensures.hi) in
     none-enclosed b (pay_of_task task) task.group.now.start (has_bit task.group.now.alive) _ c.exact.result
-    (none-on-end b (pay_of_task task) task.group.now.start (has_bit task.group.now.alive) c.args.n silent) none
+    (none-on-end b (pay_of_task task) task.group.now.start (has_bit task.group.now.alive) c.args.n silent)
+    c.exact.ensures.lo c.exact.ensures.hi

@@ -1,19 +1,16 @@
-use Rattle.std.proofs.Common.{◌≡◌, ℕ, true, lit<, subst, sym}
+use Rattle.std.proofs.Common.{ℕ, lit<, subst, sym}
 use Rattle.halo_sums.specs.Masks.{has_bit}
-use Rattle.halo_compile.specs.OfTask.{HaveSurvivorsAt, pay_of_task}
+use Rattle.halo_compile.specs.OfTask.{pay_of_task}
 use Rattle.halo_insure.specs.Events.{events_of, worth_on}
 use Rattle.halo_insure.specs.OfTask.{HoldDuesOn, insured_basis}
-use Rattle.halo_insure.specs.Parts.{EnclosesPartOfOne}
-use Rattle.halo_compile.proofs.Living.{living-survive}
+use Rattle.halo_along.specs.Parts.{EnclosesPartOfOne}
+use Rattle.halo_insure.proofs.TreeTasks.{alive-survive}
 use Rattle.halo_insure.proofs.parts.worth_on.Goals as goal
 
 pub worth_at-requires : goal.worth_at-requires
 worth_at-requires g c =
     let task = c.args.task.now in
-    let start = c.start.ensures.value in
-    let there : HaveSurvivorsAt task task.group.now.start c.alive.result = λ i below alive.
-    living-survive g.row.N task.group.now c.alive.ensures.group i below
-    (subst (λ (mask : ℕ). has_bit mask i ≡ true) c.alive.ensures.value alive) in (
+    let start = c.start.ensures.value in (
       lit< tt,
       (
         lit< tt,
@@ -26,7 +23,7 @@ worth_at-requires g c =
               (
                 subst (λ (t : ℕ). HoldDuesOn task (events_of c.args.events) t c.pass.new.work) (sym start)
                     c.pass.ensures.values,
-                subst (λ (t : ℕ). HaveSurvivorsAt task t c.alive.result) (sym start) there,
+                alive-survive g.row.N task.group.now c.alive.ensures.group _ _ start c.alive.ensures.value,
               ),
             ),
           ),

@@ -1,38 +1,27 @@
-use Rattle.std.proofs.Common.{◌≡◌, ℕ, true, lit<, subst, sym}
-use Rattle.halo_sums.specs.Masks.{has_bit}
-use Rattle.halo_model.specs.Enclosed.{EnclosesOne}
-use Rattle.halo_compile.specs.OfTask.{HaveSurvivorsAt, pay_of_task}
-use Rattle.halo_insure.specs.OfTask.{HoldDuesAt, insured_basis}
-use Rattle.halo_compile.proofs.Living.{living-survive}
+use Rattle.std.proofs.Common.{lit<}
+use Rattle.halo_insure.proofs.TreeTasks.{alive-survive, value-told}
 use Rattle.halo_insure.proofs.whole.contingent.Goals as goal
 
-pub value_at-requires : goal.value_at-requires
-value_at-requires g c =
+pub value_along-requires : goal.value_along-requires
+value_along-requires g c =
     let task = c.args.task.now in
-    let start = c.start.ensures.value in
-    let there : HaveSurvivorsAt task task.group.now.start c.alive.result = λ i below alive.
-    living-survive g.row.N task.group.now c.alive.ensures.group i below
-    (subst (λ (mask : ℕ). has_bit mask i ≡ true) c.alive.ensures.value alive) in (
+    let goes = c.goes_along.ensures.0 c.if-goes_along.true in (
       lit< tt,
       (
-        lit< tt,
+        c.of.ensures.valid c.requires.task goes.once,
         (
-          c.requires.task,
+          rw c.of.ensures.value goes.follows,
           (
-            c.requires.insurance,
-            (
-              subst (λ (t : ℕ). HoldDuesAt task t c.insurance_all.new.work) (sym start) c.insurance_all.ensures.values,
-              subst (λ (t : ℕ). HaveSurvivorsAt task t c.alive.result) (sym start) there,
-            ),
+            rw c.start.ensures.value c.start.ensures.group.time,
+            rw c.of.ensures.value
+                (alive-survive g.row.N task.group.now c.alive.ensures.group _ _
+                c.start.ensures.value c.alive.ensures.value),
           ),
         ),
       ),
     )
 
-pub returns-clause-encloses : goal.returns-clause-encloses
-returns-clause-encloses g c =
-    let task = c.args.task.now in
-    let P : ℕ → ℕ → Type 0 = λ t alive.
-    EnclosesOne (insured_basis task) (pay_of_task task) t (has_bit alive) c.value_at.result in
-    subst (λ (t : ℕ). P t task.group.now.alive) c.start.ensures.value
-    (subst (λ (alive : ℕ). P c.start.result alive) c.alive.ensures.value c.value_at.ensures)
+pub returns-then-goes_along-clause-encloses : goal.returns-then-goes_along-clause-encloses
+returns-then-goes_along-clause-encloses g c =
+    value-told c.args.task.now c.of.result c.of.ensures.value _ _ c.start.ensures.value c.alive.ensures.value
+    c.value_along.result c.value_along.ensures.encloses
