@@ -1,6 +1,6 @@
 use crate::{
-    Failed, FileShelf, LoadFault, MemShelf, MemSink, OutSink, Shelf, Sink, SureShelf, SureSink,
-    load, put_all,
+    Failed, FileShelf, LoadFault, MemShelf, MemSink, OutSink, Shelf, Sink, SlowShelf, SureShelf,
+    SureSink, load, put_all,
 };
 use std::alloc::{AllocError, Global};
 use std::fs;
@@ -57,6 +57,31 @@ fn loads_a_whole_file_or_says_why_not(rt: HostRuntime) -> Result<(), Fail> {
         b"abcde".as_slice()
     );
     assert!(rt; load(alloc, &mut sure, "missing", 5)?.is_empty());
+    Ok(())
+}
+
+#[test]
+fn loads_a_file_piece_by_piece(rt: HostRuntime) -> Result<(), Fail> {
+    let alloc = rt.alloc();
+    // A piece, and how many bytes of five a read with room for six gives.
+    for (piece, count) in [(1, 1), (2, 2), (7, 5)] {
+        let mut slow = SlowShelf::new(files(alloc)?, piece);
+        assert_eq!(rt;
+            slow.read_at("short", 0, &mut [0; 6]),
+            Ok(count),
+            "by {piece}"
+        );
+        assert_eq!(rt;
+            load(alloc, &mut slow, "long", 9000)?.as_slice(),
+            LONG.as_slice(),
+            "by {piece}"
+        );
+        assert_eq!(rt;
+            load(alloc, &mut slow, "long", 8999).err(),
+            Some(LoadFault::TooLong),
+            "by {piece}"
+        );
+    }
     Ok(())
 }
 
