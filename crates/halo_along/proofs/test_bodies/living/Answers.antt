@@ -19,5 +19,5 @@ survivors-of-both a b survivors i is both =
     some n e = grind (arith, nat_tests)
 
 pub returns : goal.returns
-returns g c = λ i below both. survivors-of-both c.args.set c.alive.result _ i
+returns c = λ i below both. survivors-of-both c.args.set c.alive.result _ i
     (rw c.alive.ensures.value (c.at.ensures.alive i below)) both
