@@ -1,5 +1,5 @@
-// Worked values of insurances along the tree, on three lives aged 60 in one table, with the interest
-// 1/1.
+// Worked values of insurances along the tree, on three lives aged 60 in one table, with the
+// interest 1/1.
 ghost use Rattle.std.specs.Prelude.{◌≡◌, ◌<◌, IfOk, None};
 ghost use Rattle.halo_status.specs.Naming.{NamesLivesBelow};
 ghost use Rattle.halo_status.specs.Pay.{pay_of};
