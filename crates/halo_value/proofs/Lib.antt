@@ -5,6 +5,7 @@ mod FormsOfContract
 mod OfContract
 mod Premiums
 mod ReadBack
+mod SetSizes
 mod ShortTerms
 mod SomeForm
 pub mod SomeForms

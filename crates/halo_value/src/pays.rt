@@ -51,13 +51,13 @@ pub fn values_of_pay<const N: usize, const M: usize, L: Ledger>(
 {
     let group = setting.group;
     let horizon = horizon(&pay.body, group.tables(), group.lives());
-    if goes_along_the_tree(pay, setting.reserves.len().saturating_add(1)) {
-        let along = TreeTask {
-            pay,
-            group,
-            interest: setting.interest,
-            horizon,
-        };
+    let along = TreeTask {
+        pay,
+        group,
+        interest: setting.interest,
+        horizon,
+    };
+    if goes_along_the_tree(&along, setting.reserves.len().saturating_add(1)) {
         return values_along(alloc, &along, setting.reserves, steps);
     }
     let form = compile::<M>(alloc, pay, horizon)?;
