@@ -10,6 +10,7 @@ mod ShortTerms
 mod SomeForm
 pub mod SomeForms
 pub mod SomeParts
+mod TwelveLives
 mod Zips
 mod Explained
 mod CoefficientParts

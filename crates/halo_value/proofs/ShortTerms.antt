@@ -6,7 +6,8 @@ use Rattle.halo_status.specs.Naming.{any_names_term, names_term}
 use Rattle.halo_status.specs.Nodes.{AtEachNode, AtEachNodeIn}
 use Rattle.halo_status.specs.ValidPay.{HasLength}
 
-either : (a b : Bool) → (a || b) ≡ true → (a ≡ true) ⊎ (b ≡ true)
+-- one of two tests that are true together
+pub either : (a b : Bool) → (a || b) ≡ true → (a ≡ true) ⊎ (b ≡ true)
 either true b e = inl refl
 either false b e = inr e
 

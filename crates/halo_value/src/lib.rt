@@ -24,6 +24,8 @@ mod reading;
 mod terms;
 #[cfg(test)]
 mod tests;
+#[cfg(test)]
+mod twelve_tests;
 mod value;
 
 pub use forms::compiled_forms;

@@ -24,7 +24,7 @@ use std::test::Fail;
 const TABLE: &[u8] = b"table,age,l,death\nm,60,4,2\nm,61,2,1\nm,62,1,1\n";
 
 // The table, of which the lives have rows at 60 and at 61.
-fn table(rt: &impl Abort, alloc: Global) -> Result<Tables, Fail>
+pub(crate) fn table(rt: &impl Abort, alloc: Global) -> Result<Tables, Fail>
     ensures { IfOk result (λ tables. HasRow tables 0 60 × HasRow tables 0 61) }
 {
     let tables = Tables::read(alloc, TABLE)?;
