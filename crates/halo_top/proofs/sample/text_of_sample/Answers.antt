@@ -25,7 +25,8 @@ returns c =
     let tables_len : c.len.result ≡ length (sample_tables n)
     = c.len.ensures ∙ sym c.deref.ensures.len ∙ ap length (c.deref.ensures.value ∙ c.in_ok-files.ensures.tables) in
     let contract_len : c.len-2.result ≡ length (sample_contract n)
-    = c.len-2.ensures ∙ sym c.deref-2.ensures.len ∙ ap length (c.deref-2.ensures.value ∙ c.in_ok-files.ensures.contract) in
+    = c.len-2.ensures ∙ sym c.deref-2.ensures.len
+    ∙ ap length (c.deref-2.ensures.value ∙ c.in_ok-files.ensures.contract) in
     IfOk-weaker c.sample_text.result (λ text. text.items ≡ sample_text n c.len.result c.len-2.result report)
     (λ text. TellsSample n text.items)
     (λ text is. record {
