@@ -9,8 +9,7 @@ ghost use Rattle.halo_num.specs.Blend.{blend, IsLeastBlend, IsGreatestBlend};
 use crate::mixing::{greatest_blend, least_blend};
 use crate::nano::Nano;
 use crate::rounding::{
-    printed_down, printed_up, product_down, product_up, quotient_down, quotient_up, ratio_down,
-    ratio_up,
+    printed_down, printed_up, products_outward, quotient_down, quotient_up, ratio_down, ratio_up,
 };
 use crate::steps::Steps;
 use std::marker::Model;
@@ -163,10 +162,8 @@ impl Ival {
         ensures cost { steps.new ≡ steps.old + 1 }
     {
         steps.tick();
-        Ival {
-            lo: product_down(self.lo, o.lo),
-            hi: product_up(self.hi, o.hi),
-        }
+        let (lo, hi) = products_outward((self.lo, self.hi), (o.lo, o.hi));
+        Ival { lo, hi }
     }
 
     /// The quotient by an interval that is not below 1, rounded outward.

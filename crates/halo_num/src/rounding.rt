@@ -4,11 +4,36 @@ ghost use Rattle.std.specs.Prelude.{◌≡◌, ◌*◌, ◌^◌, ◌≤◌, ℤ,
 ghost use Rattle.halo_num.specs.Ends.{fine, printed};
 ghost use Rattle.halo_num.specs.Rounding.{IsFloor, IsCeiling};
 
-use crate::units::{FINE_UNITS, PRINTED_UNIT};
-use crate::wide::{divided_multiple, divided_product};
+use crate::units::{FINE_UNITS, ONE_IN_FINE_UNITS, PRINTED_UNIT};
+use crate::wide::{chance_down, chance_up, divided_multiple, divided_product, part_down, part_up};
+
+/// The product of two lower ends, rounded down, and that of the upper ends, rounded up.
+///
+/// Most second factors are chances or discount factors, which are at most 1, and so are many of the
+/// first: their products take fewer steps.
+pub fn products_outward(a: (i128, i128), b: (i128, i128)) -> (i128, i128)
+    requires a_from { pos 0 ≤ℤ a.0 }
+    requires a_order { a.0 ≤ℤ a.1 }
+    requires a_in { a.1 ≤ℤ pos (10 ^ 33) }
+    requires b_from { pos 0 ≤ℤ b.0 }
+    requires b_order { b.0 ≤ℤ b.1 }
+    requires b_in { b.1 ≤ℤ pos (10 ^ 21) }
+    ensures floor { IsFloor result.0 (a.0 *ℤ b.0) (pos fine) }
+    ensures ceiling { IsCeiling result.1 (a.1 *ℤ b.1) (pos fine) }
+    ensures low_from { pos 0 ≤ℤ result.0 }
+    ensures high_from { pos 0 ≤ℤ result.1 }
+{
+    if b.1 > ONE_IN_FINE_UNITS {
+        (product_down(a.0, b.0), product_up(a.1, b.1))
+    } else if a.1 > ONE_IN_FINE_UNITS {
+        (part_product_down(a.0, b.0), part_product_up(a.1, b.1))
+    } else {
+        (chance_product_down(a.0, b.0), chance_product_up(a.1, b.1))
+    }
+}
 
 /// The product of two numbers of fine units, in fine units, rounded down.
-pub fn product_down(a: i128, b: i128) -> i128
+fn product_down(a: i128, b: i128) -> i128
     requires a_from { pos 0 ≤ℤ a }
     requires a_in { a ≤ℤ pos (10 ^ 33) }
     requires b_from { pos 0 ≤ℤ b }
@@ -20,7 +45,7 @@ pub fn product_down(a: i128, b: i128) -> i128
 }
 
 /// The product of two numbers of fine units, in fine units, rounded up.
-pub fn product_up(a: i128, b: i128) -> i128
+fn product_up(a: i128, b: i128) -> i128
     requires a_from { pos 0 ≤ℤ a }
     requires a_in { a ≤ℤ pos (10 ^ 33) }
     requires b_from { pos 0 ≤ℤ b }
@@ -34,6 +59,54 @@ pub fn product_up(a: i128, b: i128) -> i128
     } else {
         division.whole as i128 + 1
     }
+}
+
+/// The product of a number of fine units and one up to 1, in fine units, rounded down.
+fn part_product_down(a: i128, b: i128) -> i128
+    requires a_from { pos 0 ≤ℤ a }
+    requires a_in { a ≤ℤ pos (10 ^ 33) }
+    requires b_from { pos 0 ≤ℤ b }
+    requires b_in { b ≤ℤ pos fine }
+    ensures floor { IsFloor result (a *ℤ b) (pos fine) }
+    ensures from { pos 0 ≤ℤ result }
+{
+    part_down(a as u128, b as u64) as i128
+}
+
+/// The product of a number of fine units and one up to 1, in fine units, rounded up.
+fn part_product_up(a: i128, b: i128) -> i128
+    requires a_from { pos 0 ≤ℤ a }
+    requires a_in { a ≤ℤ pos (10 ^ 33) }
+    requires b_from { pos 0 ≤ℤ b }
+    requires b_in { b ≤ℤ pos fine }
+    ensures ceiling { IsCeiling result (a *ℤ b) (pos fine) }
+    ensures from { pos 0 ≤ℤ result }
+{
+    part_up(a as u128, b as u64) as i128
+}
+
+/// The product of two numbers of fine units up to 1, in fine units, rounded down.
+fn chance_product_down(a: i128, b: i128) -> i128
+    requires a_from { pos 0 ≤ℤ a }
+    requires a_in { a ≤ℤ pos fine }
+    requires b_from { pos 0 ≤ℤ b }
+    requires b_in { b ≤ℤ pos fine }
+    ensures floor { IsFloor result (a *ℤ b) (pos fine) }
+    ensures from { pos 0 ≤ℤ result }
+{
+    chance_down(a as u64, b as u64) as i128
+}
+
+/// The product of two numbers of fine units up to 1, in fine units, rounded up.
+fn chance_product_up(a: i128, b: i128) -> i128
+    requires a_from { pos 0 ≤ℤ a }
+    requires a_in { a ≤ℤ pos fine }
+    requires b_from { pos 0 ≤ℤ b }
+    requires b_in { b ≤ℤ pos fine }
+    ensures ceiling { IsCeiling result (a *ℤ b) (pos fine) }
+    ensures from { pos 0 ≤ℤ result }
+{
+    chance_up(a as u64, b as u64) as i128
 }
 
 /// The quotient of two numbers of fine units, in fine units, rounded down.

@@ -1,6 +1,6 @@
 //! Products and quotients whose exact value passes 128 bits.
 //!
-//! A product of two ends has up to 54 decimal digits, and `u128` holds 38. Both functions divide in
+//! A product of two ends has up to 54 decimal digits, and `u128` holds 38. The functions divide in
 //! parts, so that no step passes 10^37 and nothing is lost.
 
 ghost use Rattle.std.specs.Prelude.{◌≡◌, ◌+◌, ◌*◌, ◌^◌, ◌<◌, ◌≤◌};
@@ -11,7 +11,7 @@ use crate::units::FINE_UNITS;
 /// The base of the long division: a factor of 10^18 brings down two of its digits.
 const BILLION: u128 = 1_000_000_000;
 
-/// 2^57: a number up to 10^36 without its last 57 bits fits 64.
+/// 2^57: a number up to 3 * 10^36 without its last 57 bits fits 64.
 const LOW_PART: u128 = 1 << 57;
 
 /// The reciprocal of 10^18, as a multiple of 2^-123: 2^123 / 10^18, rounded down.
@@ -30,24 +30,6 @@ pub struct Division {
     pub rest: u128,
 }
 
-/// The product of `a` and `b`, divided by 10^18.
-///
-/// Factors up to 1, as probabilities and discounts are, have a product that is divided at once,
-/// since every valuation makes most of its products of such factors.
-pub fn divided_product(a: u128, b: u128) -> Division
-    requires a_in { a ≤ 10 ^ 33 }
-    requires b_in { b ≤ 10 ^ 21 }
-    ensures whole { result.whole * fine + result.rest ≡ a * b }
-    ensures rest { result.rest < fine }
-    ensures bound { result.whole ≤ 2 * 10 ^ 36 }
-{
-    if a <= FINE_UNITS && b <= FINE_UNITS {
-        divided_by_fine(product(a as u64, b as u64))
-    } else {
-        divided_in_parts(a, b)
-    }
-}
-
 /// The product of two numbers of 64 bits.
 fn product(a: u64, b: u64) -> u128
     ensures { result ≡ a * b }
@@ -60,7 +42,7 @@ fn product(a: u64, b: u64) -> u128
 /// Behind the near whole part less than 2 * 10^18 is left, which a division of 64 bits by a
 /// constant settles without a branch.
 fn divided_by_fine(units: u128) -> Division
-    requires small { units ≤ 10 ^ 36 }
+    requires small { units ≤ 2 * 10 ^ 36 + fine }
     ensures whole { result.whole * fine + result.rest ≡ units }
     ensures rest { result.rest < fine }
 {
@@ -77,12 +59,105 @@ fn divided_by_fine(units: u128) -> Division
 /// It is found without a division: the number without its last 57 bits, which fits 64, times the
 /// reciprocal of 10^18.
 fn near_whole(units: u128) -> u128
-    requires small { units ≤ 10 ^ 36 }
+    requires small { units ≤ 2 * 10 ^ 36 + fine }
     ensures from { result * fine ≤ units }
     ensures near { units < (result + 2) * fine }
 {
     let high = units / LOW_PART;
     product(high as u64, RECIPROCAL) / RECIPROCAL_SCALE
+}
+
+/// A number divided by 10^18, rounded down.
+fn whole_down(units: u128) -> u128
+    requires small { units ≤ 2 * 10 ^ 36 + fine }
+    ensures from { result * fine ≤ units }
+    ensures near { units < (result + 1) * fine }
+    ensures few { result ≤ 3 * 10 ^ 18 }
+{
+    divided_by_fine(units).whole
+}
+
+/// A number divided by 10^18, rounded up.
+fn whole_up(units: u128) -> u128
+    requires small { units ≤ 2 * 10 ^ 36 }
+    ensures to { units ≤ result * fine }
+    ensures near { result * fine < units + fine }
+    ensures few { result ≤ 3 * 10 ^ 18 }
+{
+    whole_down(units + (FINE_UNITS - 1))
+}
+
+/// The product of two numbers up to 1, divided by 10^18 and rounded down.
+pub fn chance_down(a: u64, b: u64) -> u128
+    requires a_in { a ≤ fine }
+    requires b_in { b ≤ fine }
+    ensures from { result * fine ≤ a * b }
+    ensures near { a * b < (result + 1) * fine }
+    ensures few { result ≤ 3 * 10 ^ 18 }
+{
+    whole_down(product(a, b))
+}
+
+/// The product of two numbers up to 1, divided by 10^18 and rounded up.
+pub fn chance_up(a: u64, b: u64) -> u128
+    requires a_in { a ≤ fine }
+    requires b_in { b ≤ fine }
+    ensures to { a * b ≤ result * fine }
+    ensures near { result * fine < a * b + fine }
+    ensures few { result ≤ 3 * 10 ^ 18 }
+{
+    whole_up(product(a, b))
+}
+
+/// A number as so many ones and a rest, which may hold another one.
+#[derive(Clone, Copy)]
+struct Split {
+    ones: u64,
+    rest: u64,
+}
+
+/// The ones of a number, or all but one of them, and what is left over.
+fn split_near(units: u128) -> Split
+    requires small { units ≤ 10 ^ 33 }
+    ensures whole { result.ones * fine + result.rest ≡ units }
+    ensures rest { result.rest < 2 * fine }
+    ensures few { result.ones ≤ 10 ^ 15 }
+{
+    let ones = near_whole(units);
+    Split {
+        ones: ones as u64,
+        rest: (units - ones * FINE_UNITS) as u64,
+    }
+}
+
+/// The product of a number and one up to 1, divided by 10^18 and rounded down.
+///
+/// What the ones of the number contribute divides exactly.
+pub fn part_down(a: u128, b: u64) -> u128
+    requires a_in { a ≤ 10 ^ 33 }
+    requires b_in { b ≤ fine }
+    ensures from { result * fine ≤ a * b }
+    ensures near { a * b < (result + 1) * fine }
+    ensures bound { result ≤ 2 * 10 ^ 36 }
+{
+    let number = split_near(a);
+    let whole = product(number.ones, b);
+    let rest = product(number.rest, b);
+    whole + whole_down(rest)
+}
+
+/// The product of a number and one up to 1, divided by 10^18 and rounded up.
+pub fn part_up(a: u128, b: u64) -> u128
+    requires a_in { a ≤ 10 ^ 33 }
+    requires b_in { b ≤ fine }
+    ensures to { a * b ≤ result * fine }
+    ensures near { result * fine < a * b + fine }
+    ensures bound { result ≤ 2 * 10 ^ 36 }
+{
+    let number = split_near(a);
+    let whole = product(number.ones, b);
+    let rest = product(number.rest, b);
+    whole + whole_up(rest)
 }
 
 /// A factor's whole part and its rest. Most factors are below 1 and have no whole part.
@@ -105,7 +180,7 @@ fn split_factor(units: u128) -> Division
 ///
 /// Each factor is split by 10^18 into a whole part and a rest: what a whole part contributes
 /// divides exactly, and only the product of the two rests leaves a rest.
-fn divided_in_parts(a: u128, b: u128) -> Division
+pub fn divided_product(a: u128, b: u128) -> Division
     requires a_in { a ≤ 10 ^ 33 }
     requires b_in { b ≤ 10 ^ 21 }
     ensures whole { result.whole * fine + result.rest ≡ a * b }

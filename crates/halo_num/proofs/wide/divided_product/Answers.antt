@@ -1,6 +1,6 @@
 use Rattle.std.proofs.Common.{◌∙◌}
 use Rattle.halo_num.proofs.WideProducts.{product-split}
-use Rattle.halo_num.proofs.wide.divided_in_parts.Goals as goal
+use Rattle.halo_num.proofs.wide.divided_product.Goals as goal
 
 pub returns-clause-whole : goal.returns-clause-whole
 returns-clause-whole c =
