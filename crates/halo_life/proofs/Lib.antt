@@ -1,6 +1,5 @@
 pub mod Sums
 pub mod Subsets
-pub mod Means
 pub mod Sure
 pub mod Rows
 pub mod Within

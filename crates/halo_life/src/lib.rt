@@ -6,7 +6,6 @@
 #![tactic(auto)]
 
 mod any_leaving;
-mod averaging;
 mod chances;
 mod group;
 mod one_set;

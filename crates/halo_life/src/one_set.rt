@@ -9,7 +9,6 @@ ghost use Rattle.halo_contract.specs.declared.ties.Ties.TheVariants.{Even};
 ghost use Rattle.halo_life.specs.PlainGroup.{is_even};
 ghost use Rattle.halo_life.specs.YearOfLives.{EncloseYears, EnclosesFirst, EnclosesLeaving, EnclosesSurvival, HasSmaller, numbers_of};
 
-use crate::averaging::mean;
 use crate::group::Group;
 use crate::sets::{first_of, without};
 use crate::work::Work;
@@ -97,7 +96,7 @@ impl<'a, const N: usize> Group<'a, N> {
                 count += 1;
             }
         }
-        mean(sum, count).clamp(0, ONE_IN_FINE_UNITS)
+        sum.divide(count).clamp(0, ONE_IN_FINE_UNITS)
     }
 
     // The chance of a set where a life is the first of it: it leaves and counts, or it stays and

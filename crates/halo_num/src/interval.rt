@@ -10,6 +10,7 @@ use crate::mixing::{greatest_blend, least_blend};
 use crate::nano::Nano;
 use crate::rounding::{
     printed_down, printed_up, products_outward, quotient_down, quotient_up, ratio_down, ratio_up,
+    share_down, share_up,
 };
 use crate::steps::Steps;
 use std::marker::Model;
@@ -184,6 +185,23 @@ impl Ival {
         Ival {
             lo: quotient_down(self.lo, o.hi),
             hi: quotient_up(self.hi, o.lo),
+        }
+    }
+
+    /// An equal part of so many: the quotient by a whole number, rounded outward.
+    pub fn divide(self, count: u64) -> Ival
+        requires from { pos 0 ≤ℤ self.lo }
+        requires some { 1 ≤ count }
+        ensures low { IsFloor result.lo self.lo (pos count) }
+        ensures high { IsCeiling result.hi self.hi (pos count) }
+        ensures encloses { (n d : ℕ) → Encloses self (pos n) d → Encloses result (pos n) (d * count) }
+        ensures from { pos 0 ≤ℤ result.lo }
+        ensures most { (b : ℕ) → self.lo ≤ℤ pos (count * b) → result.lo ≤ℤ pos b }
+        ensures narrow { (w : ℕ) → HasWidth self (count * w) → HasWidth result (w + 1) }
+    {
+        Ival {
+            lo: share_down(self.lo, count),
+            hi: share_up(self.hi, count),
         }
     }
 

@@ -138,6 +138,26 @@ pub fn quotient_up(a: i128, divisor: i128) -> i128
     }
 }
 
+/// A number of fine units divided by a whole number, rounded down.
+pub fn share_down(units: i128, count: u64) -> i128
+    requires from { pos 0 ≤ℤ units }
+    requires some { 1 ≤ count }
+    ensures floor { IsFloor result units (pos count) }
+    ensures from { pos 0 ≤ℤ result }
+{
+    (units as u128 / u128::from(count)) as i128
+}
+
+/// A number of fine units divided by a whole number, rounded up.
+pub fn share_up(units: i128, count: u64) -> i128
+    requires from { pos 0 ≤ℤ units }
+    requires some { 1 ≤ count }
+    ensures ceiling { IsCeiling result units (pos count) }
+    ensures from { pos 0 ≤ℤ result }
+{
+    ((units as u128 + u128::from(count - 1)) / u128::from(count)) as i128
+}
+
 /// The fraction `n / d` in fine units, rounded down.
 pub fn ratio_down(n: u64, d: u64) -> i128
     requires from { 1 ≤ d }

@@ -48,8 +48,8 @@ loop-life-preserved g c =
           }
     ]
 
-pub mean-requires : goal.mean-requires
-mean-requires g c =
+pub divide-requires : goal.divide-requires
+divide-requires g c =
     let n = g.row.N in
     let end : c.loop-life.life ≡ n = omega (arith, c.loop-life-test.false, c.count-life-end.ensures.value) in
     let below : c.args.set < 2 ^ n = omega (arith, c.requires.below, c.requires.sets) in
@@ -57,14 +57,7 @@ mean-requires g c =
     rw end at c.loop-life.invariant.count in
     let some : 1 ≤ c.loop-life.count =
     omega (arith, count, size-of-lives n c.args.set, size-some n c.args.set c.requires.some below) in
-    let few : c.loop-life.count ≤ 12 =
-    omega (arith, end, c.loop-life.invariant.few, c.count-life-end.ensures.group.few) in
-    record {
-      from = c.loop-life.invariant.within.low;
-      to = omega (arith, ints, c.loop-life.invariant.within.high, few);
-      some = some;
-      few = omega arith;
-    }
+    record { from = c.loop-life.invariant.within.low; some = some }
 
 pub returns-clause-leaving : goal.returns-clause-leaving
 returns-clause-leaving g c =
@@ -77,11 +70,11 @@ returns-clause-leaving g c =
     let some : 1 ≤ c.loop-life.count =
     omega (arith, count, size-of-lives n c.args.set, size-some n c.args.set c.requires.some below) in
     let part : IsSumTo n numbers c.args.set n c.loop-life.sum = rw end at c.loop-life.invariant.part in
-    let cut : IsCut c.mean.result c.clamp.result =
+    let cut : IsCut c.divide.result c.clamp.result =
     record { lo = c.clamp.ensures.lo; hi = c.clamp.ensures.hi; encloses = c.clamp.ensures.encloses } in
     evenly-enclosed n numbers
-    c.args.set c.requires.years.parts c.loop-life.count count some c.loop-life.sum c.mean.result c.clamp.result part
-    c.mean.ensures.from c.mean.ensures.encloses c.mean.ensures.narrow cut
+    c.args.set c.requires.years.parts c.loop-life.count count some c.loop-life.sum c.divide.result c.clamp.result part
+    c.divide.ensures.from c.divide.ensures.encloses c.divide.ensures.narrow cut
 
 pub returns-clause-cost : goal.returns-clause-cost
 returns-clause-cost g c =
