@@ -40,8 +40,8 @@ fn operand(units: i128, third: Ival) -> Ival
     Ival::exact(units).add(third)
 }
 
-// Products of intervals that begin at `from`, with others below 1. Both ends of both change from call
-// to call.
+// Products of intervals that begin at `from`, with others below 1. Both ends of both change from
+// call to call.
 fn products<L: Ledger>(blank: Blank, count: u64, from: i128) -> i128
     requires name { blank.name ≡ L.name }
     requires parts { blank.parts ≡ L.parts }

@@ -1,3 +1,4 @@
+// Commutation columns of short tables, worked by hand.
 ghost use Rattle.std.specs.Prelude.{◌≡◌, ◌<◌};
 
 use crate::columns;

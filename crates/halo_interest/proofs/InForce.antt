@@ -10,10 +10,13 @@ either true r s f g = f
 either false r s f g = g
 
 -- the last that has begun, of fractions
-latest_is : (r : Rate) (rest : List Rate) (k : ℕ) → IsFraction r.p r.q → ((i : ℕ) → i < length rest → IsFraction (rate_at rest i).p (rate_at rest i).q) → IsFraction (latest_of r rest k).p (latest_of r rest k).q
+latest_is : (r : Rate) (rest : List Rate) (k : ℕ) → IsFraction r.p r.q
+    → ((i : ℕ) → i < length rest → IsFraction (rate_at rest i).p (rate_at rest i).q)
+    → IsFraction (latest_of r rest k).p (latest_of r rest k).q
 latest_is r [] k f each = f
 latest_is r (next ∷ rest) k f each =
-    either (nat_le next.year k) (latest_of next rest k) r (latest_is next rest k (each 0 (omega arith)) (λ i l. each (suc i) (omega arith))) f
+    either (nat_le next.year k) (latest_of next rest k) r
+    (latest_is next rest k (each 0 (omega arith)) (λ i l. each (suc i) (omega arith))) f
 
 -- the fraction of a year, of an interest
 pub in_force_is : (rates : List Rate) → IsInterest rates → (k : ℕ) → IsFraction (rate_of rates k).p (rate_of rates k).q

@@ -25,11 +25,13 @@ pub kept_first : (r : Rate) → r.year ≡ 0 → IsFraction r.p r.q → IsKept (
 kept_first r e f = record { full = refl; within = omega arith; interest = one_rate r e f; unused = refl }
 
 -- a fraction that may follow makes an interest of one more
-followed : (rates : List Rate) (r : Rate) → IsInterest rates → CanFollow rates r.year r.p r.q → IsInterest (rates ++ r ∷ [])
+followed : (rates : List Rate) (r : Rate) → IsInterest rates → CanFollow rates r.year r.p r.q
+    → IsInterest (rates ++ r ∷ [])
 followed rates r a f =
     let n = length rates
     in let len : length (rates ++ r ∷ []) ≡ n + 1 = length-append rates (r ∷ [])
-    in let old : (i : ℕ) → i < n → rate_at (rates ++ r ∷ []) i ≡ rate_at rates i = λ i l. get_or_append_left rates (r ∷ []) no_interest i l
+    in let old : (i : ℕ) → i < n → rate_at (rates ++ r ∷ []) i ≡ rate_at rates i =
+    λ i l. get_or_append_left rates (r ∷ []) no_interest i l
     in let new : rate_at (rates ++ r ∷ []) n ≡ r = get_or-append_seam rates r [] no_interest
     in record {
       some = omega arith;
@@ -56,7 +58,8 @@ followed rates r a f =
     }
 
 -- it is kept in the next place
-pub kept_more : (places : List Rate) (count : ℕ) (r : Rate) → IsKept places count → CanFollow (take count places) r.year r.p r.q → IsKept (set places count r) (count + 1)
+pub kept_more : (places : List Rate) (count : ℕ) (r : Rate) → IsKept places count
+    → CanFollow (take count places) r.year r.p r.q → IsKept (set places count r) (count + 1)
 kept_more places count r k f =
     let len : length (take count places) ≡ count = length-take-le count places (omega (arith, k.full, k.within))
     in let room : count < 8 = omega (arith, f.room)
@@ -65,11 +68,19 @@ kept_more places count r k f =
       full = simp length-set k.full;
       within = omega arith;
       interest = rw (take_more_set places count r fits) (followed (take count places) r k.interest f);
-      unused = rw (drop-set-lt (count + 1) places count r (omega arith), ← drop-drop 1 count places, k.unused, drop-replicate 1 (8 - count) no_interest) (let e : 8 - count - 1 ≡ 8 - (count + 1) = omega arith in rw e refl);
+      unused =
+          rw (
+            drop-set-lt (count + 1) places count r (omega arith),
+            ← drop-drop 1 count places,
+            k.unused,
+            drop-replicate
+                1 (8 - count) no_interest,
+          ) (let e : 8 - count - 1 ≡ 8 - (count + 1) = omega arith in rw e refl);
     }
 
 -- a place within the count holds the fraction there
-pub place_kept : (places : List Rate) (count i : ℕ) (d : Rate) → IsKept places count → i < length (take count places) → get_or places i d ≡ rate_at (take count places) i
+pub place_kept : (places : List Rate) (count i : ℕ) (d : Rate) → IsKept places count → i < length (take count places)
+    → get_or places i d ≡ rate_at (take count places) i
 place_kept places count i d k l =
     let len = count_back places count k
     in let fits : i < length places = omega (arith, k.full, k.within)
@@ -77,5 +88,6 @@ place_kept places count i d k l =
     in get_or_default places i d no_interest fits ∙ sym (get_or-take count places i no_interest within)
 
 -- and it holds a fraction of interest
-pub fraction_kept : (places : List Rate) (count i : ℕ) (d : Rate) → IsKept places count → i < length (take count places) → IsFraction (get_or places i d).p (get_or places i d).q
+pub fraction_kept : (places : List Rate) (count i : ℕ) (d : Rate) → IsKept places count → i < length (take count places)
+    → IsFraction (get_or places i d).p (get_or places i d).q
 fraction_kept places count i d k l = rw (place_kept places count i d k l) (k.interest.fractions i l)

@@ -1,3 +1,4 @@
+// Yearly interest: fractions that hold from a year on, and the discount factors that they give.
 ghost use Rattle.std.specs.Prelude.{◌≡◌, ℕ, ◌+◌, ◌-◌, ◌<◌, ◌≤◌, ◌↔◌, [], ◌∷◌, ◌++◌, length, pos, IsTrue, IsSome, IfSome, OnSome, IfNone};
 ghost use Rattle.halo_num.specs.Ends.{fine, IsWithin, HasWidth};
 ghost use Rattle.halo_num.specs.Enclosure.{Encloses};
@@ -187,13 +188,13 @@ impl Interest {
 
     /// What 1 is worth at time `start` if it is due t years later, for each t up to time 200.
     ///
-    /// The counter is raised by at most 200.
+    /// The counter is raised by at most [`LAST_TIME`].
     pub fn powers_from<L: Ledger>(&self, start: u16, steps: &mut Steps<L>) -> Powers
         requires { start ≤ LAST_TIME }
         ensures powers { ArePowers
             (discount_numerator self.now) (discount_denominator self.now) start result }
         ensures rates { (k : ℕ) → IsFraction (rate_of self.now k).p (rate_of self.now k).q }
-        ensures cost { steps.new ≤ steps.old + 200 }
+        ensures cost { steps.new ≤ steps.old + LAST_TIME }
     {
         // The proof sees here that each year has a fraction.
         let _ = &self.rates;
@@ -208,12 +209,12 @@ impl Interest {
 
     /// What 1 is worth at time 0 if it is due t years later, for each t up to time 200.
     ///
-    /// The counter is raised by at most 200.
+    /// The counter is raised by at most [`LAST_TIME`].
     pub fn powers<L: Ledger>(&self, steps: &mut Steps<L>) -> Powers
         ensures powers { ArePowers
             (discount_numerator self.now) (discount_denominator self.now) 0 result }
         ensures rates { (k : ℕ) → IsFraction (rate_of self.now k).p (rate_of self.now k).q }
-        ensures cost { steps.new ≤ steps.old + 200 }
+        ensures cost { steps.new ≤ steps.old + LAST_TIME }
     {
         self.powers_from(0, steps)
     }

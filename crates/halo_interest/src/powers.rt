@@ -1,3 +1,4 @@
+// The products of the discount factors of the years before each time.
 ghost use Rattle.std.specs.Prelude.{◌≡◌, ℕ, ◌-◌, ◌*◌, ◌≤◌, pos};
 ghost use Rattle.halo_num.specs.Ends.{fine, IsWithin};
 ghost use Rattle.halo_interest.specs.Powers.{power_at, IsPower, ArePowers};

@@ -1,3 +1,4 @@
+// One fraction of yearly interest, and the year from which it holds.
 ghost use Rattle.std.specs.Prelude.{◌↔◌, IsTrue};
 ghost use Rattle.halo_interest.specs.Rates.{IsFraction};
 

@@ -1,3 +1,4 @@
+// Discount factors of level and of changing interest, worked by hand.
 ghost use Rattle.std.specs.Prelude.{◌≡◌, ◌<◌};
 
 use crate::{Interest, LARGEST_PART};

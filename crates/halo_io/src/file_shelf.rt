@@ -1,3 +1,4 @@
+// A shelf: the files of the machine.
 ghost use Rattle.std.specs.Prelude.{◌≡◌, ◌≤◌, ℕ, List, None, OnErr};
 ghost use Rattle.std.specs.Io.{ReadsAtMost};
 ghost use Rattle.halo_io.specs.Counts.{Rose, count_after};

@@ -1,3 +1,4 @@
+// A shelf for tests: files in memory, of which chosen reads fail.
 ghost use Rattle.std.specs.Prelude.{◌≡◌, ◌≤◌, ◌↔◌, ℕ, List, length, IfOk, IfSome, IsErr, OnErr};
 ghost use Rattle.std.specs.Io.{ReadsAtMost};
 ghost use Rattle.halo_io.specs.Counts.{Rose};

@@ -1,3 +1,4 @@
+// A sink for tests: a store in memory, of which chosen writes fail.
 ghost use Rattle.std.specs.Prelude.{◌≡◌, ◌≤◌, ◌<◌, ◌↔◌, Some, length, vec_len, IfOk, IsErr, IsTrue, OnErr};
 ghost use Rattle.std.specs.Io.{WritesAtMost};
 ghost use Rattle.halo_io.specs.Counts.{Rose};
@@ -86,7 +87,8 @@ impl Sink for MemSink {
         ensures later { faults_of self.old ≤ faults_of self.new }
         ensures bound { WritesAtMost result piece.now }
         ensures progress { IfOk result (λ n. 0 < length piece.now → 0 < n) }
-        ensures bytes { AppendsTaken (Some (taken_of self.old)) (Some (taken_of self.new)) result piece.now }
+        ensures bytes { AppendsTaken
+            (Some (taken_of self.old)) (Some (taken_of self.new)) result piece.now }
         ensures cause { OnErr result (Rose (faults_of self.old) (faults_of self.new)) }
 
         ensures fails { IsErr result ↔ FailsAt self.old piece.now }

@@ -1,3 +1,4 @@
+// A sink: the standard output.
 ghost use Rattle.std.specs.Prelude.{◌≡◌, ◌≤◌, ◌<◌, None, length, IfOk, OnErr};
 ghost use Rattle.std.specs.Io.{WritesAtMost};
 ghost use Rattle.halo_io.specs.Counts.{Rose, count_after};

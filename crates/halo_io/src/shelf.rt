@@ -1,3 +1,4 @@
+// What a program reads from, and what each kind of it promises.
 ghost use Rattle.std.specs.Prelude.{◌≡◌, ◌≤◌, ℕ, List, Option, OnErr};
 ghost use Rattle.std.specs.Io.{ReadsAtMost};
 ghost use Rattle.halo_io.specs.Counts.{Rose};

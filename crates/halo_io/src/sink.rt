@@ -1,3 +1,4 @@
+// What a program writes to, and what each kind of it promises.
 ghost use Rattle.std.specs.Prelude.{◌≡◌, ◌≤◌, ◌<◌, ℕ, List, Option, length, IfOk, OnErr};
 ghost use Rattle.std.specs.Io.{WritesAtMost};
 ghost use Rattle.halo_io.specs.Counts.{Rose};

@@ -1,3 +1,4 @@
+// A shelf for tests: files in memory, given a few bytes at a time.
 ghost use Rattle.std.specs.Prelude.{◌≡◌, ◌≤◌, ℕ, List, Some, length, min, IfOk, IsOk};
 ghost use Rattle.std.specs.Io.{ReadsAtMost};
 ghost use Rattle.halo_io.specs.Held.{count_from};

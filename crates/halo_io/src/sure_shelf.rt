@@ -1,3 +1,4 @@
+// A shelf without failures: files in memory.
 ghost use Rattle.std.specs.Prelude.{◌≡◌, ℕ, List, Some, length, IfOk, IsOk};
 ghost use Rattle.std.specs.Io.{ReadsAtMost};
 ghost use Rattle.halo_io.specs.Held.{count_from};
@@ -36,7 +37,8 @@ impl Shelf for SureShelf {
         ensures bound { ReadsAtMost result into.new }
         ensures bytes { GivesAt (Some (file_of self.old name.now)) at result into.new }
         ensures never_fails { IsOk result }
-        ensures count { IfOk result (λ n. n ≡ count_from (file_of self.old name.now) at (length into.old)) }
+        ensures count { IfOk result (λ n.
+            n ≡ count_from (file_of self.old name.now) at (length into.old)) }
         ensures next { self.new ≡ self.old }
     {
         match find_bytes(&self.files, name) {

@@ -1,3 +1,4 @@
+// A sink without failures, which is told what it will be given.
 ghost use Rattle.std.specs.Prelude.{◌≡◌, ◌↔◌, Ok, true, length, IsTrue};
 ghost use Rattle.halo_io.specs.SureSink.{StandsAt};
 ghost use Rattle.halo_io.specs.Told.{AppendsTaken};

@@ -1,3 +1,4 @@
+// Shelves and sinks that fail and that do not, and files loaded from and written to them.
 use crate::{
     Failed, FileShelf, LoadFault, MemShelf, MemSink, OutSink, Shelf, Sink, SlowShelf, SureShelf,
     SureSink, load, put_all,

@@ -20,7 +20,8 @@ nil_is_no_cons : {b : ℕ} {more : List ℕ} → [] ≡ b ∷ more → ⊥
 nil_is_no_cons e = absurd cc
 
 -- a run of bytes that is taken as long as it goes is told by the bytes
-run_one : (P : ℕ → Type 0) (xs ys r s : List ℕ) → All P xs → All P ys → BeginsWithout P r → BeginsWithout P s → xs ++ r ≡ ys ++ s → (xs ≡ ys) × (r ≡ s)
+run_one : (P : ℕ → Type 0) (xs ys r s : List ℕ) → All P xs → All P ys → BeginsWithout P r → BeginsWithout P s
+    → xs ++ r ≡ ys ++ s → (xs ≡ ys) × (r ≡ s)
 run_one P [] [] r s a b u v e = (refl, e)
 run_one P [] (y ∷ ys) [] s a b u v e = absurd cc
 run_one P [] (y ∷ ys) (z ∷ zs) s a b u v e =
@@ -50,7 +51,8 @@ Begins (number _) b = IsDigit b
 Begins (byte _) b = is_symbol_byte b ≡ true
 
 -- a lexeme has a first byte
-first_of : (lexeme : Lexeme) (rest : List ℕ) → IsLexeme lexeme → (b : ℕ) × (more : List ℕ) × (text_before lexeme rest ≡ b ∷ more) × Begins lexeme b
+first_of : (lexeme : Lexeme) (rest : List ℕ) → IsLexeme lexeme
+    → (b : ℕ) × (more : List ℕ) × (text_before lexeme rest ≡ b ∷ more) × Begins lexeme b
 first_of (name []) rest is = absurd is
 first_of (name (b ∷ text)) rest is = (b, text ++ rest, refl, is.0)
 first_of (number []) rest is = let some = is.0 in absurd (omega arith)
@@ -58,11 +60,13 @@ first_of (number (b ∷ text)) rest is = (b, text ++ rest, refl, All-head IsDigi
 first_of (byte b) rest is = (b, rest, refl, is)
 
 -- what holds of each byte of a list holds of a byte that is among them
-among : (test : ℕ → Bool) (b : ℕ) (bytes : List ℕ) → list_any (λ c. c == b) bytes ≡ true → list_all test bytes ≡ true → test b ≡ true
+among : (test : ℕ → Bool) (b : ℕ) (bytes : List ℕ) → list_any (λ c. c == b) bytes ≡ true → list_all test bytes ≡ true
+    → test b ≡ true
 among test b [] any all = absurd cc
 among test b (c ∷ bytes) any all =
     let both = and_parts (test c) (list_all test bytes) all in
-    elim (or_cases (c == b) (list_any (λ d. d == b) bytes) any) [ inl same ↦ rw (eqb-true c b same) at both.0 | inr more ↦ among test b bytes more both.1 ]
+    elim (or_cases (c == b) (list_any (λ d. d == b) bytes) any)
+        [ inl same ↦ rw (eqb-true c b same) at both.0 | inr more ↦ among test b bytes more both.1 ]
 
 -- a letter is no digit
 letter_no_digit : (b : ℕ) → is_ascii_alphabetic b ≡ true → IsDigit b → ⊥
@@ -71,15 +75,20 @@ letter_no_digit b letter digit = grind arith
 -- a letter is no byte that stands by itself
 letter_no_symbol : (b : ℕ) → is_ascii_alphabetic b ≡ true → is_symbol_byte b ≡ true → ⊥
 unfolding is_symbol_byte
-letter_no_symbol b letter symbol = both_ways (is_ascii_alphabetic b) (not-true (is_ascii_alphabetic b) (among (λ c. not (is_ascii_alphabetic c)) b symbol_bytes symbol refl)) letter
+letter_no_symbol b letter symbol =
+    both_ways (is_ascii_alphabetic b) (not-true (is_ascii_alphabetic b)
+        (among (λ c. not (is_ascii_alphabetic c)) b symbol_bytes symbol refl)) letter
 
 -- a digit is no byte that stands by itself
 digit_no_symbol : (b : ℕ) → IsDigit b → is_symbol_byte b ≡ true → ⊥
 unfolding is_symbol_byte
-digit_no_symbol b digit symbol = both_ways (is_ascii_digit b) (not-true (is_ascii_digit b) (among (λ c. not (is_ascii_digit c)) b symbol_bytes symbol refl)) (grind (arith, nat_tests))
+digit_no_symbol b digit symbol =
+    both_ways (is_ascii_digit b) (not-true (is_ascii_digit b)
+        (among (λ c. not (is_ascii_digit c)) b symbol_bytes symbol refl)) (grind (arith, nat_tests))
 
 -- two lexemes that begin the same bytes begin with the same byte
-begin_alike : (lexeme other : Lexeme) (r s : List ℕ) → IsLexeme lexeme → IsLexeme other → text_before lexeme r ≡ text_before other s → (b : ℕ) × Begins lexeme b × Begins other b
+begin_alike : (lexeme other : Lexeme) (r s : List ℕ) → IsLexeme lexeme → IsLexeme other
+    → text_before lexeme r ≡ text_before other s → (b : ℕ) × Begins lexeme b × Begins other b
 begin_alike lexeme other r s is has e =
     let a = first_of lexeme r is in
     let b = first_of other s has in
@@ -87,17 +96,25 @@ begin_alike lexeme other r s is has e =
     (a.0, a.3, rw same at b.3)
 
 -- bytes begin with one lexeme at most that is taken as long as it goes
-pub lexeme_one : (lexeme other : Lexeme) (r s : List ℕ) → IsLexeme lexeme → IsLexeme other → Follows lexeme r → Follows other s → text_before lexeme r ≡ text_before other s → (lexeme ≡ other) × (r ≡ s)
+pub lexeme_one : (lexeme other : Lexeme) (r s : List ℕ) → IsLexeme lexeme → IsLexeme other → Follows lexeme r
+    → Follows other s → text_before lexeme r ≡ text_before other s → (lexeme ≡ other) × (r ≡ s)
 lexeme_one (name a) (name b) r s is has f g e =
     let run = run_one (λ c. is_name_byte c ≡ true) a b r s (long_name_all a is) (long_name_all b has) f g e in
     (ap name run.0, run.1)
-lexeme_one (name a) (number b) r s is has f g e = let both = begin_alike (name a) (number b) r s is has e in absurd (letter_no_digit both.0 both.1 both.2)
-lexeme_one (name a) (byte b) r s is has f g e = let both = begin_alike (name a) (byte b) r s is has e in absurd (letter_no_symbol both.0 both.1 both.2)
-lexeme_one (number a) (name b) r s is has f g e = let both = begin_alike (number a) (name b) r s is has e in absurd (letter_no_digit both.0 both.2 both.1)
-lexeme_one (number a) (number b) r s is has f g e = let run = run_one IsDigit a b r s is.1 has.1 f g e in (ap number run.0, run.1)
-lexeme_one (number a) (byte b) r s is has f g e = let both = begin_alike (number a) (byte b) r s is has e in absurd (digit_no_symbol both.0 both.1 both.2)
-lexeme_one (byte a) (name b) r s is has f g e = let both = begin_alike (byte a) (name b) r s is has e in absurd (letter_no_symbol both.0 both.2 both.1)
-lexeme_one (byte a) (number b) r s is has f g e = let both = begin_alike (byte a) (number b) r s is has e in absurd (digit_no_symbol both.0 both.2 both.1)
+lexeme_one (name a) (number b) r s is has f g e =
+    let both = begin_alike (name a) (number b) r s is has e in absurd (letter_no_digit both.0 both.1 both.2)
+lexeme_one (name a) (byte b) r s is has f g e =
+    let both = begin_alike (name a) (byte b) r s is has e in absurd (letter_no_symbol both.0 both.1 both.2)
+lexeme_one (number a) (name b) r s is has f g e =
+    let both = begin_alike (number a) (name b) r s is has e in absurd (letter_no_digit both.0 both.2 both.1)
+lexeme_one (number a) (number b) r s is has f g e =
+    let run = run_one IsDigit a b r s is.1 has.1 f g e in (ap number run.0, run.1)
+lexeme_one (number a) (byte b) r s is has f g e =
+    let both = begin_alike (number a) (byte b) r s is has e in absurd (digit_no_symbol both.0 both.1 both.2)
+lexeme_one (byte a) (name b) r s is has f g e =
+    let both = begin_alike (byte a) (name b) r s is has e in absurd (letter_no_symbol both.0 both.2 both.1)
+lexeme_one (byte a) (number b) r s is has f g e =
+    let both = begin_alike (byte a) (number b) r s is has e in absurd (digit_no_symbol both.0 both.2 both.1)
 lexeme_one (byte a) (byte b) r s is has f g e = (cc, cc)
 
 -- these bytes do not begin with a lexeme
@@ -122,7 +139,8 @@ none_at b more none lexeme rest is e =
     begins_not lexeme b none (rw same at first.3)
 
 -- bytes are cut in one way into lexemes and other bytes that no lexeme begins
-pub lexemes_one : (lexemes others : List Lexeme) (r s : List ℕ) → AreLexemesBefore lexemes r → AreLexemesBefore others s → BeginWithNone r → BeginWithNone s
+pub lexemes_one : (lexemes others : List Lexeme) (r s : List ℕ) → AreLexemesBefore lexemes r → AreLexemesBefore others s
+    → BeginWithNone r → BeginWithNone s
     → texts_before lexemes r ≡ texts_before others s → (lexemes ≡ others) × (r ≡ s)
 lexemes_one [] [] r s a b u v e = (refl, e)
 lexemes_one [] (other ∷ others) r s a b u v e = absurd (u other (texts_before others s) b.0 e)
@@ -133,19 +151,25 @@ lexemes_one (lexeme ∷ lexemes) (other ∷ others) r s a b u v e =
     (ap₂ (λ (x : Lexeme) (xs : List Lexeme). x ∷ xs) first.0 more.0, more.1)
 
 -- lexemes that are taken as long as they go are told by their texts
-pub told_by_texts : (lexemes others : List Lexeme) → AreLexemes lexemes → AreLexemes others → texts lexemes ≡ texts others → lexemes ≡ others
+pub told_by_texts : (lexemes others : List Lexeme) → AreLexemes lexemes → AreLexemes others
+    → texts lexemes ≡ texts others → lexemes ≡ others
 told_by_texts lexemes others a b e = (lexemes_one lexemes others [] [] a b none_at_end none_at_end e).0
 
 -- a word is stuck at one place at most
 pub stuck_one : (word : List ℕ) (place other : ℕ) → IsStuckAt word place → IsStuckAt word other → place ≡ other
 stuck_one word place other s t =
-    let same = lexemes_one s.before t.before (s.first ∷ s.rest) (t.first ∷ t.rest) s.lexemes t.lexemes (none_at s.first s.rest s.none) (none_at t.first t.rest t.none) (sym s.reads ∙ t.reads) in
+    let same =
+        lexemes_one s.before t.before (s.first ∷ s.rest) (t.first ∷ t.rest) s.lexemes t.lexemes
+            (none_at s.first s.rest s.none) (none_at t.first t.rest t.none) (sym s.reads ∙ t.reads) in
     s.at ∙ ap (λ x. length (texts x)) same.0 ∙ sym t.at
 
 -- a word that has lexemes is stuck nowhere
-pub cut_not_stuck : (word : List ℕ) (lexemes : List Lexeme) (place : ℕ) → AreLexemesOf word lexemes → IsStuckAt word place → ⊥
+pub cut_not_stuck : (word : List ℕ) (lexemes : List Lexeme) (place : ℕ) → AreLexemesOf word lexemes
+    → IsStuckAt word place → ⊥
 cut_not_stuck word lexemes place cut s =
-    let same = lexemes_one lexemes s.before [] (s.first ∷ s.rest) cut.each s.lexemes none_at_end (none_at s.first s.rest s.none) (cut.whole ∙ s.reads) in
+    let same =
+        lexemes_one lexemes s.before [] (s.first ∷ s.rest) cut.each s.lexemes none_at_end
+            (none_at s.first s.rest s.none) (cut.whole ∙ s.reads) in
     nil_is_no_cons same.1
 
 -- a name is a name of any length that has at most 32 bytes
@@ -153,5 +177,6 @@ pub short_name : (text : List ℕ) → IsName text ↔ (IsLongName text × (leng
 short_name [] = ((λ named. let some = named.some in absurd (omega arith)), (λ both. absurd both.0))
 short_name (first ∷ rest) = (
   (λ named. ((named.letter, All-tail (λ b. is_name_byte b ≡ true) first rest named.bytes), named.short)),
-  (λ both. record { some = omega arith; short = both.1; letter = both.0.0; bytes = long_name_all (first ∷ rest) both.0 }),
+  (λ both. record { some = omega arith; short = both.1; letter = both.0.0;
+      bytes = long_name_all (first ∷ rest) both.0 }),
 )

@@ -26,7 +26,8 @@ passing_digit : (b : ℕ) → is_ascii_digit b ≡ true → IsDigit b
 passing_digit b passes = grind (arith, nat_tests)
 
 -- the name that begins at a letter
-pub name_next : (word : List ℕ) (from to : ℕ) → from < length word → is_ascii_alphabetic (get_or word from 0) ≡ true → IsRun is_name_byte word from to
+pub name_next : (word : List ℕ) (from to : ℕ) → from < length word → is_ascii_alphabetic (get_or word from 0) ≡ true
+    → IsRun is_name_byte word from to
     → IsNextToken word from (record { kind = kind.Name; from = from; to = to })
 name_next word from to lt letter run =
     let some = run_some is_name_byte word from to run lt (letter_in_name (get_or word from 0) letter) in
@@ -37,12 +38,15 @@ name_next word from to lt letter run =
       some = some;
       within = run.within;
       part = append-nil (slice_range word from to);
-      lexeme = subst IsLongName (sym parts) (letter, All-tail (λ b. is_name_byte b ≡ true) (get_or word from 0) (slice_range word (from + 1) to) (rw parts at all));
+      lexeme =
+          subst IsLongName (sym parts) (letter, All-tail (λ b. is_name_byte b ≡ true) (get_or word from 0)
+              (slice_range word (from + 1) to) (rw parts at all));
       follows = run_stops is_name_byte word from to run;
     }
 
 -- the number that begins at a digit
-pub number_next : (word : List ℕ) (from to : ℕ) → from < length word → is_ascii_digit (get_or word from 0) ≡ true → IsRun is_ascii_digit word from to
+pub number_next : (word : List ℕ) (from to : ℕ) → from < length word → is_ascii_digit (get_or word from 0) ≡ true
+    → IsRun is_ascii_digit word from to
     → IsNextToken word from (record { kind = kind.Number; from = from; to = to })
 number_next word from to lt digit run =
     let some = run_some is_ascii_digit word from to run lt digit in
@@ -76,14 +80,22 @@ byte_next word from lt symbol =
     }
 
 -- a byte begins a token, or no lexeme
-pub next_or_none : (word : List ℕ) (place : ℕ) → place < length word → ((token : Token) × IsNextToken word place token) ⊎ BeginsNoLexeme (get_or word place 0)
+pub next_or_none : (word : List ℕ) (place : ℕ) → place < length word
+    → ((token : Token) × IsNextToken word place token) ⊎ BeginsNoLexeme (get_or word place 0)
 next_or_none word place lt = elim (cases_Bool (is_ascii_alphabetic (get_or word place 0))) [
-  | inl letter ↦ let run = some_run is_name_byte word place (omega arith) in inl (_, name_next word place run.0 lt letter run.1)
+  | inl letter ↦ let run =
+      some_run is_name_byte word place (omega arith) in inl (_, name_next word place run.0 lt letter run.1)
   | inr no_letter ↦ elim (cases_Bool (is_ascii_digit (get_or word place 0))) [
-    | inl digit ↦ let run = some_run is_ascii_digit word place (omega arith) in inl (_, number_next word place run.0 lt digit run.1)
+    | inl digit ↦ let run =
+        some_run is_ascii_digit word place (omega arith) in inl (_, number_next word place run.0 lt digit run.1)
     | inr no_digit ↦ elim (cases_Bool (is_symbol_byte (get_or word place 0))) [
       | inl symbol ↦ inl (_, byte_next word place lt symbol)
-      | inr no_symbol ↦ inr (record { letter = no_letter; digit = λ d. both_ways (is_ascii_digit (get_or word place 0)) no_digit (digit_passes (get_or word place 0) d); symbol = no_symbol })
+      | inr no_symbol ↦
+          inr (record { letter = no_letter;
+              digit =
+                  λ d. both_ways (is_ascii_digit (get_or word place 0)) no_digit (digit_passes (get_or word place 0) d);
+                      symbol =
+                      no_symbol })
     ]
   ]
 ]

@@ -24,13 +24,15 @@ none_next line place word blanks next =
     both_ways (is_blank (get_or line word.from 0)) (not-true (is_blank (get_or line word.from 0)) other) blank
 
 -- one word comes next
-next_one : (line : List ℕ) (place : ℕ) (word other : Span) → IsNextWord line place word → IsNextWord line place other → word ≡ other
+next_one : (line : List ℕ) (place : ℕ) (word other : Span) → IsNextWord line place word → IsNextWord line place other
+    → word ≡ other
 next_one line place word other a b =
     let from = one_end is_blank line place word.from other.from a.blanks b.blanks in
     span_one word other from (one_end _ line other.from word.to other.to (rw from at a.bytes) b.bytes)
 
 -- from a place on a line has its words in one way
-pub words_one : (line : List ℕ) (place : ℕ) (words others : List Span) → AreWordsFrom line place words → AreWordsFrom line place others → words ≡ others
+pub words_one : (line : List ℕ) (place : ℕ) (words others : List Span) → AreWordsFrom line place words
+    → AreWordsFrom line place others → words ≡ others
 words_one line place [] [] a b = refl
 words_one line place [] (other ∷ others) a b = absurd (none_next line place other a b.0)
 words_one line place (word ∷ words) [] a b = absurd (none_next line place word b a.0)
@@ -44,6 +46,8 @@ abbrev EndsBy : ℕ → Span → Type 0
 EndsBy end word = (word.from < word.to) × (word.to ≤ end)
 
 -- from a place on the words of a line lie within it
-pub words_within : (line : List ℕ) (place : ℕ) (words : List Span) → AreWordsFrom line place words → All (EndsBy (length line)) words
+pub words_within : (line : List ℕ) (place : ℕ) (words : List Span) → AreWordsFrom line place words
+    → All (EndsBy (length line)) words
 words_within line place [] are = All-nil (EndsBy (length line))
-words_within line place (word ∷ words) are = All-cons (EndsBy (length line)) word words (are.0.some, are.0.bytes.within) (words_within line word.to words are.1)
+words_within line place (word ∷ words) are =
+    All-cons (EndsBy (length line)) word words (are.0.some, are.0.bytes.within) (words_within line word.to words are.1)

@@ -35,7 +35,8 @@ HasItsText word token = texts (lexeme_of word token ∷ []) ≡ part_of word tok
 -- tokens follow each other without gap from one place to another
 abbrev pub Tile : ℕ → List Token → ℕ → Type 0
 Tile from [] to = from ≡ to
-Tile from (token ∷ tokens) to = (token.from ≡ from) × (token.from < token.to) × Tile token.to tokens to
+Tile from (token ∷ tokens) to =
+    (token.from ≡ from) × (token.from < token.to) × Tile token.to tokens to
 
 -- these tokens are those of the word
 pub record IsCut (word : List ℕ) (tokens : List Token) : Type 0 where
@@ -49,7 +50,8 @@ pub record BeginsNoLexeme (b : ℕ) : Type 0 where
   pub digit : IsDigit b → ⊥
   pub symbol : is_symbol_byte b ≡ false
 
--- a word is stuck at a place: before it stand lexemes, each taken as long as it goes, and the byte there begins none
+-- a word is stuck at a place: before it stand lexemes, each taken as long as it goes, and the byte
+-- there begins none
 pub record IsStuckAt (word : List ℕ) (place : ℕ) : Type 0 where
   -- the lexemes before the place
   pub before : List Lexeme

@@ -17,7 +17,8 @@ pub data Lexeme : Type 0 where
 -- a name of any length: a letter, and then bytes that may stand in a name
 abbrev pub IsLongName : List ℕ → Type 0
 IsLongName [] = ⊥
-IsLongName (first ∷ rest) = (is_ascii_alphabetic first ≡ true) × All (λ b. is_name_byte b ≡ true) rest
+IsLongName (first ∷ rest) =
+    (is_ascii_alphabetic first ≡ true) × All (λ b. is_name_byte b ≡ true) rest
 
 -- the bytes that stand by themselves
 abbrev pub symbol_bytes : List ℕ
@@ -53,7 +54,8 @@ abbrev pub BeginsWithout : (ℕ → Type 0) → List ℕ → Type 0
 BeginsWithout P [] = ⊤
 BeginsWithout P (first ∷ _) = P first → ⊥
 
--- a lexeme is taken as long as it goes: these bytes, which follow it, do not begin with one that would belong to it
+-- a lexeme is taken as long as it goes: these bytes, which follow it, do not begin with one that
+-- would belong to it
 abbrev pub Follows : Lexeme → List ℕ → Type 0
 Follows (name _) rest = BeginsWithout (λ b. is_name_byte b ≡ true) rest
 Follows (number _) rest = BeginsWithout IsDigit rest
@@ -62,7 +64,8 @@ Follows (byte _) rest = ⊤
 -- each of these is a lexeme and is taken as long as it goes, where these bytes follow the last
 abbrev pub AreLexemesBefore : List Lexeme → List ℕ → Type 0
 AreLexemesBefore [] rest = ⊤
-AreLexemesBefore (lexeme ∷ lexemes) rest = IsLexeme lexeme × Follows lexeme (texts_before lexemes rest) × AreLexemesBefore lexemes rest
+AreLexemesBefore (lexeme ∷ lexemes) rest =
+    IsLexeme lexeme × Follows lexeme (texts_before lexemes rest) × AreLexemesBefore lexemes rest
 
 -- each of these is a lexeme and is taken as long as it goes
 abbrev pub AreLexemes : List Lexeme → Type 0

@@ -12,7 +12,8 @@ is_blank b = (b == 32) || (b == 9)
 abbrev pub AreBlanksFrom : List ℕ → ℕ → Type 0
 AreBlanksFrom line place = AllWithin (λ b. is_blank b ≡ true) line place (length line)
 
--- the word that comes next from a place on: first stand the blanks there, if any, and then one or more other bytes, up to a blank or to the line's end
+-- the word that comes next from a place on: first stand the blanks there, if any, and then one or
+-- more other bytes, up to a blank or to the line's end
 pub record IsNextWord (line : List ℕ) (place : ℕ) (word : Span) : Type 0 where
   pub blanks : IsRun is_blank line place word.from
   pub some : word.from < word.to
@@ -21,7 +22,8 @@ pub record IsNextWord (line : List ℕ) (place : ℕ) (word : Span) : Type 0 whe
 -- from this place on a line has these words, in order, and else only blanks
 abbrev pub AreWordsFrom : List ℕ → ℕ → List Span → Type 0
 AreWordsFrom line place [] = AreBlanksFrom line place
-AreWordsFrom line place (word ∷ words) = IsNextWord line place word × AreWordsFrom line word.to words
+AreWordsFrom line place (word ∷ words) =
+    IsNextWord line place word × AreWordsFrom line word.to words
 
 -- these are the words of the line, in order
 abbrev pub AreWords : List ℕ → List Span → Type 0

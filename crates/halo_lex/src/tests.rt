@@ -1,3 +1,4 @@
+// Words cut into tokens, and words that have another byte.
 use crate::{LexError, Span, Token, TokenKind, symbol_tokens, words};
 use std::rt::HostRuntime;
 

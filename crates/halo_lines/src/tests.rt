@@ -1,3 +1,4 @@
+// The lines of reports that were worked by hand.
 ghost use Rattle.std.specs.Prelude.{◌≡◌, ◌<◌};
 
 use crate::{benefits, pay_lines, premium_line, reserve_line};

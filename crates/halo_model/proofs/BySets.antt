@@ -16,21 +16,32 @@ use Rattle.halo_model.proofs.OneWay.{one-life}
 gather : (n : ℕ) (with without : ℤ) (rest f joined : List Bool → ℤ)
     → ((u : List Bool) → joined (true ∷ u) ≡ (with *ℤ rest u) *ℤ f (true ∷ u))
     → ((u : List Bool) → joined (false ∷ u) ≡ (without *ℤ rest u) *ℤ f (false ∷ u))
-    → with *ℤ int_sum_over (sets n) (λ u. rest u *ℤ f (true ∷ u)) +ℤ without *ℤ int_sum_over (sets n) (λ u. rest u *ℤ f (false ∷ u)) ≡ int_sum_over (sets (suc n)) joined
-gather n with without rest f joined h-with h-without = omega (arith, ints, int_sum_over-sets n joined, part with true h-with, part without false h-without)
+    → with *ℤ int_sum_over (sets n) (λ u. rest u *ℤ f (true ∷ u)) +ℤ without *ℤ int_sum_over (sets n)
+    (λ u. rest u *ℤ f (false ∷ u)) ≡ int_sum_over (sets (suc n)) joined
+gather n with without rest f joined h-with h-without =
+    omega (arith, ints, int_sum_over-sets n joined, part with true h-with, part without false h-without)
   where
-    part : (c : ℤ) (b : Bool) → ((u : List Bool) → joined (b ∷ u) ≡ (c *ℤ rest u) *ℤ f (b ∷ u)) → int_sum_over (sets n) (λ u. joined (b ∷ u)) ≡ c *ℤ int_sum_over (sets n) (λ u. rest u *ℤ f (b ∷ u))
-    part c b h = int_sum_over-ext (sets n) _ _ (λ u. h u ∙ mul_assoc c (rest u) (f (b ∷ u))) ∙ int_sum_over-scale (sets n) c (λ u. rest u *ℤ f (b ∷ u))
+    part : (c : ℤ) (b : Bool) → ((u : List Bool) → joined (b ∷ u) ≡ (c *ℤ rest u) *ℤ f (b ∷ u))
+        → int_sum_over (sets n) (λ u. joined (b ∷ u)) ≡ c *ℤ int_sum_over (sets n) (λ u. rest u *ℤ f (b ∷ u))
+    part c b h =
+        int_sum_over-ext (sets n) _ _ (λ u. h u ∙ mul_assoc c (rest u) (f (b ∷ u)))
+        ∙ int_sum_over-scale (sets n) c (λ u. rest u *ℤ f (b ∷ u))
 
-pub expected-by-sets : (times : ℕ → ℕ) (T : ℕ) → ((i : ℕ) → T ≤ times i) → (S : ℕ → Bool) (lives : List PlainLife) → AreLives lives → (f : List Bool → ℤ)
-    → expected T S lives (λ o. f (there_at times o)) ≡ int_sum_over (sets (length lives)) (λ u. exactly_there times T S lives u *ℤ f u)
+pub expected-by-sets : (times : ℕ → ℕ) (T : ℕ) → ((i : ℕ) → T ≤ times i) → (S : ℕ → Bool) (lives : List PlainLife)
+    → AreLives lives → (f : List Bool → ℤ)
+    → expected T S lives (λ o. f (there_at times o))
+    ≡ int_sum_over (sets (length lives)) (λ u. exactly_there times T S lives u *ℤ f u)
 expected-by-sets times T from S [] rule f = omega (arith, ints)
 expected-by-sets times T from S (x ∷ lives) rule f =
     expected-cons T S x lives (λ o. f (there_at times o))
-    ∙ one-life x rule.0 T (times 0) (from 0) (S 0) (λ b. expected T (after_first S) lives (λ o. f (b ∷ there_at later o)))
-    ∙ ap (λ z. with *ℤ z +ℤ without *ℤ expected T (after_first S) lives (λ o. f (false ∷ there_at later o))) (expected-by-sets later T (λ i. from (suc i)) (after_first S) lives rule.1 (λ u. f (true ∷ u)))
-    ∙ ap (λ z. with *ℤ int_sum_over (sets (length lives)) (λ u. rest u *ℤ f (true ∷ u)) +ℤ without *ℤ z) (expected-by-sets later T (λ i. from (suc i)) (after_first S) lives rule.1 (λ u. f (false ∷ u)))
-    ∙ gather (length lives) with without rest f (λ u. exactly_there times T S (x ∷ lives) u *ℤ f u) (λ u. refl) (λ u. refl)
+    ∙ one-life x rule.0 T (times 0) (from 0) (S 0)
+    (λ b. expected T (after_first S) lives (λ o. f (b ∷ there_at later o)))
+    ∙ ap (λ z. with *ℤ z +ℤ without *ℤ expected T (after_first S) lives (λ o. f (false ∷ there_at later o)))
+    (expected-by-sets later T (λ i. from (suc i)) (after_first S) lives rule.1 (λ u. f (true ∷ u)))
+    ∙ ap (λ z. with *ℤ int_sum_over (sets (length lives)) (λ u. rest u *ℤ f (true ∷ u)) +ℤ without *ℤ z)
+    (expected-by-sets later T (λ i. from (suc i)) (after_first S) lives rule.1 (λ u. f (false ∷ u)))
+    ∙ gather (length lives) with without rest f (λ u. exactly_there times T S (x ∷ lives) u *ℤ f u) (λ u. refl)
+    (λ u. refl)
   where
     later : ℕ → ℕ
     later = after_first times

@@ -31,22 +31,29 @@ one-order b x one = rw one (each b.ties)
     each Even = refl
 
 -- it exists with the weight of its survivors
-weight-of-one : (b : Basis) (x : PlainLife) → b.lives ≡ x ∷ [] → (pay : PlainPay) → pay.mark ≡ None → pay.body ≡ life 0 → (t : ℕ) → existing_weight b pay 0 all_lives t ≡ pos (x.survivors t)
+weight-of-one : (b : Basis) (x : PlainLife) → b.lives ≡ x ∷ [] → (pay : PlainPay) → pay.mark ≡ None → pay.body ≡ life 0
+    → (t : ℕ) → existing_weight b pay 0 all_lives t ≡ pos (x.survivors t)
 unfolding form coefficient
 weight-of-one b x one pay plain body t = rw (one, plain, body) (omega (arith, ints))
 
-due-part : (b : Basis) (x : PlainLife) → b.lives ≡ x ∷ [] → (pay : PlainPay) → pay.mark ≡ None → pay.body ≡ life 0 → (t : ℕ)
-    → due_part b pay 0 all_lives t ≡ pos (cond (nat_le pay.defer t) (payment pay (t - pay.defer) * discounted b 0 t * x.survivors t) 0)
-due-part b x one pay plain body t = rw (from-start t, and-true (nat_le pay.defer t), weight-of-one b x one pay plain body t) (each (nat_le pay.defer t))
+due-part : (b : Basis) (x : PlainLife) → b.lives ≡ x ∷ [] → (pay : PlainPay) → pay.mark ≡ None → pay.body ≡ life 0
+    → (t : ℕ)
+    → due_part b pay 0 all_lives t ≡ pos (cond (nat_le pay.defer t)
+    (payment pay (t - pay.defer) * discounted b 0 t * x.survivors t) 0)
+due-part b x one pay plain body t =
+    rw (from-start t, and-true (nat_le pay.defer t), weight-of-one b x one pay plain body t) (each (nat_le pay.defer t))
   where
     from-start : (t : ℕ) → nat_le 0 t ≡ true
     from-start t = grind (arith, nat_tests)
 
-    each : (pays : Bool) → cond pays (pos (payment pay (t - pay.defer) * discounted b 0 t) *ℤ pos (x.survivors t)) (pos 0) ≡ pos (cond pays (payment pay (t - pay.defer) * discounted b 0 t * x.survivors t) 0)
+    each : (pays : Bool)
+        → cond pays (pos (payment pay (t - pay.defer) * discounted b 0 t) *ℤ pos (x.survivors t)) (pos 0)
+        ≡ pos (cond pays (payment pay (t - pay.defer) * discounted b 0 t * x.survivors t) 0)
     each true = sym (pos_mul (payment pay (t - pay.defer) * discounted b 0 t) (x.survivors t))
     each false = refl
 
-pub denominator-of-one : (b : Basis) (x : PlainLife) → b.lives ≡ x ∷ [] → denominator b 0 all_lives ≡ x.survivors 0 * accumulated b 0
+pub denominator-of-one : (b : Basis) (x : PlainLife) → b.lives ≡ x ∷ []
+    → denominator b 0 all_lives ≡ x.survivors 0 * accumulated b 0
 unfolding denominator
 denominator-of-one b x one = rw (one-order b x one, one) (omega arith)
 
@@ -65,7 +72,8 @@ due-on-one-life b x one rule pay kind plain body = record { num = num; den = den
     num : numerator b pay 0 all_lives ≡ sum_over times paid
     num = pos_injective _ _ (due-by-parts b rules pay kind plain 0 all_lives
         ∙ ap (λ n. pos n *ℤ int_sum_over times (due_part b pay 0 all_lives)) (one-order b x one)
-        ∙ ap (λ z. pos 1 *ℤ z) (int_sum_over-ext times _ _ (due-part b x one pay plain body) ∙ int_sum_over-pos times paid)
+        ∙ ap (λ z. pos 1 *ℤ z) (int_sum_over-ext times _ _ (due-part b x one pay plain body)
+        ∙ int_sum_over-pos times paid)
         ∙ unit (pos (sum_over times paid)))
       where
         unit : (z : ℤ) → pos 1 *ℤ z ≡ z

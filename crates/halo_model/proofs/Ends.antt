@@ -25,7 +25,8 @@ use Rattle.halo_model.proofs.Leaving.{expected-by-coefficients}
 use Rattle.halo_model.proofs.Marked.{ApartFrom, apart-from-marked, valid-mark}
 
 -- just before the end of a term of n years the lives that are there at n are there: those of the year have left
-there-at-end : (rank : ℕ → ℕ) (n i : ℕ) → 0 < n → (way : Option Exit) → life_not_earlier rank (ends n) i way ≡ there n way
+there-at-end : (rank : ℕ → ℕ) (n i : ℕ) → 0 < n → (way : Option Exit)
+    → life_not_earlier rank (ends n) i way ≡ there n way
 there-at-end rank n i positive None = refl
 there-at-end rank n i positive (Some y) = same n y.year positive
   where
@@ -42,20 +43,31 @@ longer-subset : (n : ℕ) → IsSubset (λ m. nat_lt n m) (λ m. nat_le n m)
 longer-subset n m h = grind (arith, nat_tests)
 
 -- a status that does not name a term exists with it as without it
-unnamed-term : (alive : ℕ → Bool) (n : ℕ) (t : Tree) → (IsTrue (names_term n t) → ⊥) → exists alive (λ m. nat_le n m) t ≡ exists alive (λ m. nat_lt n m) t
-unnamed-term alive n t silent = agree alive alive (λ m. nat_le n m) (λ m. nat_lt n m) t (λ i e. refl) (λ m e. other-term n m (λ q. silent (rw q at e)))
+unnamed-term : (alive : ℕ → Bool) (n : ℕ) (t : Tree) → (IsTrue (names_term n t) → ⊥)
+    → exists alive (λ m. nat_le n m) t ≡ exists alive (λ m. nat_lt n m) t
+unnamed-term alive n t silent =
+    agree alive alive (λ m. nat_le n m) (λ m. nat_lt n m) t (λ i e. refl)
+    (λ m e. other-term n m (λ q. silent (rw q at e)))
 
-module _ (pay : PlainPay) (is : IsValidInsurance pay) (any_cause : pay.causes ≡ None) (rank : ℕ → ℕ) (T n : ℕ) (positive : 0 < n) (named : OfMarked pay.mark pay.body (λ s. IsTrue (names_term n s))) where
-  others-stay : (alive : ℕ → Bool) → IfSome pay.mark (λ m. OthersStay alive alive (λ m. nat_le n m) (λ m. nat_lt n m) m.member (members_of pay.body))
-  others-stay alive = go pay.mark (apart-from-marked pay.mark pay.body (valid-mark pay is) (λ s. IsTrue (names_term n s)) named)
+module _ (pay : PlainPay) (is : IsValidInsurance pay) (any_cause : pay.causes ≡ None) (rank : ℕ → ℕ) (T n : ℕ)
+    (positive : 0 < n) (named : OfMarked pay.mark pay.body (λ s. IsTrue (names_term n s))) where
+  others-stay : (alive : ℕ → Bool)
+      → IfSome pay.mark (λ m. OthersStay alive alive (λ m. nat_le n m) (λ m. nat_lt n m) m.member (members_of pay.body))
+  others-stay alive =
+      go pay.mark (apart-from-marked pay.mark pay.body (valid-mark pay is) (λ s. IsTrue (names_term n s)) named)
     where
-      go : (mark : Option Mark) → IfSome mark (ApartFrom pay.body (λ s. IsTrue (names_term n s))) → IfSome mark (λ m. OthersStay alive alive (λ m. nat_le n m) (λ m. nat_lt n m) m.member (members_of pay.body))
+      go : (mark : Option Mark) → IfSome mark (ApartFrom pay.body (λ s. IsTrue (names_term n s)))
+          → IfSome mark (λ m. OthersStay alive alive (λ m. nat_le n m) (λ m. nat_lt n m) m.member (members_of pay.body))
       go None h = tt
-      go (Some m) h = λ q t other at. let apart = h q t other at in unnamed-term alive n t (λ names. apart.2.terms n apart.1 names)
+      go (Some m) h =
+          λ q t other at. let apart = h q t other at in unnamed-term alive n t (λ names. apart.2.terms n apart.1 names)
 
-  at-end : (o : Outcome) → pay.defer ≤ n - 1 → T ≤ n - 1 → indicator (falls_on pay rank T o (ends n)) ≡ ending pay n (there_at (λ i. n) o)
-  at-end o deferred started = rw (any_cause, reached pay.defer (n - 1) deferred, reached T (n - 1) started, before, past)
-      (fails-is (in_set u) (in_set u) (λ m. nat_le n m) (λ m. nat_lt n m) (λ i h. h) (longer-subset n) pay.mark pay.body (is.valid.lasting is.kind) (valid-mark pay is) (others-stay (in_set u)))
+  at-end : (o : Outcome) → pay.defer ≤ n - 1 → T ≤ n - 1
+      → indicator (falls_on pay rank T o (ends n)) ≡ ending pay n (there_at (λ i. n) o)
+  at-end o deferred started =
+      rw (any_cause, reached pay.defer (n - 1) deferred, reached T (n - 1) started, before, past)
+      (fails-is (in_set u) (in_set u) (λ m. nat_le n m) (λ m. nat_lt n m) (λ i h. h) (longer-subset n) pay.mark pay.body
+      (is.valid.lasting is.kind) (valid-mark pay is) (others-stay (in_set u)))
     where
       u : List Bool
       u = there_at (λ i. n) o
@@ -63,16 +75,25 @@ module _ (pay : PlainPay) (is : IsValidInsurance pay) (any_cause : pay.causes �
       lives_there : (i : ℕ) → lives_before rank o (ends n) i ≡ in_set u i
       lives_there i = there-at-end rank n i positive (get_or o i None) ∙ sym (in_set-there_at (λ i. n) o i)
 
-      before : fails_by_mark pay.mark pay.body (lives_before rank o (ends n)) (terms_before (ends n)) (lives_after rank o (ends n)) (terms_after (ends n))
-          ≡ fails_by_mark pay.mark pay.body (in_set u) (λ m. nat_le n m) (lives_after rank o (ends n)) (terms_after (ends n))
-      before = ap (λ alive. fails_by_mark pay.mark pay.body alive (λ m. nat_le n m) (lives_after rank o (ends n)) (terms_after (ends n))) (fun_ext lives_there)
+      before : fails_by_mark pay.mark pay.body (lives_before rank o (ends n)) (terms_before (ends n))
+          (lives_after rank o (ends n)) (terms_after (ends n))
+          ≡ fails_by_mark pay.mark pay.body (in_set u) (λ m. nat_le n m) (lives_after rank o (ends n))
+          (terms_after (ends n))
+      before =
+          ap (λ alive. fails_by_mark pay.mark pay.body alive (λ m. nat_le n m) (lives_after rank o (ends n))
+          (terms_after (ends n))) (fun_ext lives_there)
 
-      past : fails_by_mark pay.mark pay.body (in_set u) (λ m. nat_le n m) (lives_after rank o (ends n)) (terms_after (ends n))
+      past : fails_by_mark pay.mark pay.body (in_set u) (λ m. nat_le n m) (lives_after rank o (ends n))
+          (terms_after (ends n))
           ≡ fails_by_mark pay.mark pay.body (in_set u) (λ m. nat_le n m) (in_set u) (λ m. nat_lt n m)
-      past = ap (λ alive. fails_by_mark pay.mark pay.body (in_set u) (λ m. nat_le n m) alive (terms_after (ends n))) (fun_ext (λ i. and-true (lives_before rank o (ends n) i) ∙ lives_there i))
-          ∙ ap (λ on. fails_by_mark pay.mark pay.body (in_set u) (λ m. nat_le n m) (in_set u) on) (fun_ext (without-own n))
+      past =
+          ap (λ alive. fails_by_mark pay.mark pay.body (in_set u) (λ m. nat_le n m) alive (terms_after (ends n)))
+          (fun_ext (λ i. and-true (lives_before rank o (ends n) i) ∙ lives_there i))
+          ∙ ap (λ on. fails_by_mark pay.mark pay.body (in_set u) (λ m. nat_le n m) (in_set u) on)
+          (fun_ext (without-own n))
 
 pub chance-on-end : ChanceOnEnd
 chance-on-end pay is any_cause rank T n positive deferred started named S lives rule =
-    int_sum_over-ext (outcomes T S lives) _ _ (λ o. ap (λ z. pos (weight lives o) *ℤ z) (at-end pay is any_cause rank T n positive named o deferred started))
+    int_sum_over-ext (outcomes T S lives) _ _
+    (λ o. ap (λ z. pos (weight lives o) *ℤ z) (at-end pay is any_cause rank T n positive named o deferred started))
     ∙ expected-by-coefficients (λ i. n) T (λ i. omega arith) S lives rule (ending pay n)

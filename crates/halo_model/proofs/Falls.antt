@@ -32,7 +32,8 @@ length-there_at : (times : ℕ → ℕ) (o : Outcome) → length (there_at times
 length-there_at times [] = refl
 length-there_at times (way ∷ o) = ap suc (length-there_at (after_first times) o)
 
-pub in_set-there_at : (times : ℕ → ℕ) (o : Outcome) (i : ℕ) → in_set (there_at times o) i ≡ there (times i) (get_or o i None)
+pub in_set-there_at : (times : ℕ → ℕ) (o : Outcome) (i : ℕ)
+    → in_set (there_at times o) i ≡ there (times i) (get_or o i None)
 in_set-there_at times [] i = refl
 in_set-there_at times (way ∷ o) zero = refl
 in_set-there_at times (way ∷ o) (suc i) = in_set-there_at (after_first times) o i
@@ -59,11 +60,16 @@ other-is : (a i : ℕ) → i ≢ a → nat_eq a i ≡ false
 other-is a i h = grind (arith, nat_tests)
 
 -- another life is there before the leaving of life a where it is there at the time at which it is looked at
-other-there : (rank : ℕ → ℕ) (a i : ℕ) (x : Exit) (way : Option Exit) → life_not_earlier rank (leaves a x) i way ≡ there (looked_at rank a x.year i) way
+other-there : (rank : ℕ → ℕ) (a i : ℕ) (x : Exit) (way : Option Exit)
+    → life_not_earlier rank (leaves a x) i way ≡ there (looked_at rank a x.year i) way
 other-there rank a i x None = refl
 other-there rank a i x (Some y) = ⊎_elim
     (λ before. rw (first-earlier x.year y.year (rank i) (rank a) before, is-before (rank i) (rank a) before))
-    (λ not_before. rw (first-later x.year y.year (rank i) (rank a) not_before, is-not-before (rank i) (rank a) not_before))
+    (λ not_before. rw (
+      first-later x.year y.year (rank i) (rank a) not_before,
+      is-not-before (rank i) (rank a)
+          not_before,
+    ))
     (cases_lt (rank i) (rank a))
 
 module _ (rank : ℕ → ℕ) (o : Outcome) (a : ℕ) (x : Exit) (e : get_or o a None ≡ Some x) (within : a < length o) where
@@ -73,14 +79,20 @@ module _ (rank : ℕ → ℕ) (o : Outcome) (a : ℕ) (x : Exit) (e : get_or o a
   -- just before the leaving life a is there too, and just after it is not
   before-leaving : (i : ℕ) → lives_before rank o (leaves a x) i ≡ in_set (set others_there a true) i
   before-leaving i = ⊎_elim
-      (λ h. rw (h.1, e, own x.year (rank a)) (sym (get_or-set_same others_there a true false (omega (arith, length-there_at (looked_at rank a x.year) o)))))
-      (λ h. other-there rank a i x (get_or o i None) ∙ sym (in_set-there_at (looked_at rank a x.year) o i) ∙ sym (get_or-set_other others_there a i true false h.1))
+      (λ h. rw (h.1, e, own x.year (rank a)) (sym
+      (get_or-set_same others_there a true false (omega (arith, length-there_at (looked_at rank a x.year) o)))))
+      (λ h. other-there rank a i x (get_or o i None) ∙ sym (in_set-there_at (looked_at rank a x.year) o i)
+      ∙ sym (get_or-set_other others_there a i true false h.1))
       (eqb_tells i a)
 
   after-leaving : (i : ℕ) → lives_after rank o (leaves a x) i ≡ in_set (set others_there a false) i
   after-leaving i = ⊎_elim
-      (λ h. rw (h.1, same-is a, and-false (lives_before rank o (leaves a x) a)) (sym (get_or-set_same others_there a false false (omega (arith, length-there_at (looked_at rank a x.year) o)))))
-      (λ h. rw (other-is a i h.1, and-true (lives_before rank o (leaves a x) i)) (before-leaving i ∙ get_or-set_other others_there a i true false h.1 ∙ sym (get_or-set_other others_there a i false false h.1)))
+      (λ h. rw (h.1, same-is a, and-false (lives_before rank o (leaves a x) a))
+      (sym (get_or-set_same others_there a false false
+      (omega (arith, length-there_at (looked_at rank a x.year) o)))))
+      (λ h. rw (other-is a i h.1, and-true (lives_before rank o (leaves a x) i))
+      (before-leaving i ∙ get_or-set_other others_there a i true false h.1
+      ∙ sym (get_or-set_other others_there a i false false h.1)))
       (eqb_tells i a)
 
 without-subset : (u : List Bool) (a : ℕ) → IsSubset (in_set (set u a false)) (in_set (set u a true))
@@ -104,27 +116,48 @@ pub reached : (m n : ℕ) → m ≤ n → nat_le m n ≡ true
 reached m n h = grind (arith, nat_tests)
 
 -- a status that does not name life a exists with it as without it
-unnamed-life : (u : List Bool) (a : ℕ) (on : ℕ → Bool) (t : Tree) → (IsTrue (names_life a t) → ⊥) → exists (in_set (set u a true)) on t ≡ exists (in_set (set u a false)) on t
-unnamed-life u a on t silent = agree (in_set (set u a true)) (in_set (set u a false)) on on t (λ i e. other i (λ q. silent (rw q at e))) (λ n e. refl)
+unnamed-life : (u : List Bool) (a : ℕ) (on : ℕ → Bool) (t : Tree) → (IsTrue (names_life a t) → ⊥)
+    → exists (in_set (set u a true)) on t ≡ exists (in_set (set u a false)) on t
+unnamed-life u a on t silent =
+    agree (in_set (set u a true)) (in_set (set u a false)) on on t (λ i e. other i (λ q. silent (rw q at e)))
+    (λ n e. refl)
   where
     other : (i : ℕ) → (i ≡ a → ⊥) → in_set (set u a true) i ≡ in_set (set u a false) i
     other i h = get_or-set_other u a i true false h ∙ sym (get_or-set_other u a i false false h)
 
 module _ (pay : PlainPay) (is : IsValidInsurance pay) (rank : ℕ → ℕ) (T : ℕ) where
   others-stay : (u : List Bool) (a : ℕ) (on : ℕ → Bool) → OfMarked pay.mark pay.body (λ s. IsTrue (names_life a s))
-      → IfSome pay.mark (λ m. OthersStay (in_set (set u a true)) (in_set (set u a false)) on on m.member (members_of pay.body))
-  others-stay u a on named = go pay.mark (apart-from-marked pay.mark pay.body (valid-mark pay is) (λ s. IsTrue (names_life a s)) named)
+      → IfSome pay.mark (λ m. OthersStay (in_set (set u a true)) (in_set (set u a false)) on on m.member
+      (members_of pay.body))
+  others-stay u a on named =
+      go pay.mark (apart-from-marked pay.mark pay.body (valid-mark pay is) (λ s. IsTrue (names_life a s)) named)
     where
-      go : (mark : Option Mark) → IfSome mark (ApartFrom pay.body (λ s. IsTrue (names_life a s))) → IfSome mark (λ m. OthersStay (in_set (set u a true)) (in_set (set u a false)) on on m.member (members_of pay.body))
+      go : (mark : Option Mark) → IfSome mark (ApartFrom pay.body (λ s. IsTrue (names_life a s)))
+          → IfSome mark (λ m. OthersStay (in_set (set u a true)) (in_set (set u a false)) on on m.member
+          (members_of pay.body))
       go None h = tt
-      go (Some m) h = λ q t other at. let apart = h q t other at in unnamed-life u a on t (λ names. apart.2.lives a apart.1 names)
+      go (Some m) h =
+          λ q t other at. let apart = h q t other at in unnamed-life u a on t (λ names. apart.2.lives a apart.1 names)
 
-  at-exit : (o : Outcome) (a : ℕ) (x : Exit) → get_or o a None ≡ Some x → a < length o → pay.defer ≤ x.year → T ≤ x.year → OfMarked pay.mark pay.body (λ s. IsTrue (names_life a s))
-      → indicator (falls_on pay rank T o (leaves a x)) ≡ indicator (asked pay.causes x.cause) *ℤ derivative (existence pay x.year) a (there_at (looked_at rank a x.year) o)
+  at-exit : (o : Outcome) (a : ℕ) (x : Exit) → get_or o a None ≡ Some x → a < length o → pay.defer ≤ x.year → T ≤ x.year
+      → OfMarked pay.mark pay.body (λ s. IsTrue (names_life a s))
+      → indicator (falls_on pay rank T o (leaves a x))
+      ≡ indicator (asked pay.causes x.cause) *ℤ derivative (existence pay x.year) a
+      (there_at (looked_at rank a x.year) o)
   at-exit o a x e within deferred started named =
-      rw (reached pay.defer x.year deferred, reached T x.year started, by_cause-asked pay.causes a x, is.kind, before, past)
-      (indicator-and (asked pay.causes x.cause) (fails_by_mark pay.mark pay.body (in_set (set u a true)) on (in_set (set u a false)) on)
-      ∙ ap (λ z. indicator (asked pay.causes x.cause) *ℤ z) (fails-is (in_set (set u a true)) (in_set (set u a false)) on on (without-subset u a) (λ n h. h) pay.mark pay.body (is.valid.lasting is.kind) (valid-mark pay is) (others-stay u a on named)))
+      rw (
+        reached pay.defer x.year deferred,
+        reached T x.year started,
+        by_cause-asked pay.causes a x,
+        is.kind,
+        before,
+        past,
+      )
+      (indicator-and (asked pay.causes x.cause)
+      (fails_by_mark pay.mark pay.body (in_set (set u a true)) on (in_set (set u a false)) on)
+      ∙ ap (λ z. indicator (asked pay.causes x.cause) *ℤ z)
+      (fails-is (in_set (set u a true)) (in_set (set u a false)) on on (without-subset u a) (λ n h. h) pay.mark
+      pay.body (is.valid.lasting is.kind) (valid-mark pay is) (others-stay u a on named)))
     where
       u : List Bool
       u = there_at (looked_at rank a x.year) o
@@ -132,24 +165,43 @@ module _ (pay : PlainPay) (is : IsValidInsurance pay) (rank : ℕ → ℕ) (T : 
       on : ℕ → Bool
       on n = nat_lt x.year n
 
-      before : fails_by_mark pay.mark pay.body (lives_before rank o (leaves a x)) (terms_before (leaves a x)) (lives_after rank o (leaves a x)) (terms_after (leaves a x))
-          ≡ fails_by_mark pay.mark pay.body (in_set (set u a true)) on (lives_after rank o (leaves a x)) (terms_after (leaves a x))
-      before = ap (λ alive. fails_by_mark pay.mark pay.body alive on (lives_after rank o (leaves a x)) (terms_after (leaves a x))) (fun_ext (before-leaving rank o a x e within))
+      before : fails_by_mark pay.mark pay.body (lives_before rank o (leaves a x)) (terms_before (leaves a x))
+          (lives_after rank o (leaves a x)) (terms_after (leaves a x))
+          ≡ fails_by_mark pay.mark pay.body (in_set (set u a true)) on (lives_after rank o (leaves a x))
+          (terms_after (leaves a x))
+      before =
+          ap (λ alive. fails_by_mark pay.mark pay.body alive on (lives_after rank o (leaves a x))
+          (terms_after (leaves a x))) (fun_ext (before-leaving rank o a x e within))
 
-      past : fails_by_mark pay.mark pay.body (in_set (set u a true)) on (lives_after rank o (leaves a x)) (terms_after (leaves a x))
+      past : fails_by_mark pay.mark pay.body (in_set (set u a true)) on (lives_after rank o (leaves a x))
+          (terms_after (leaves a x))
           ≡ fails_by_mark pay.mark pay.body (in_set (set u a true)) on (in_set (set u a false)) on
-      past = ap (λ still_alive. fails_by_mark pay.mark pay.body (in_set (set u a true)) on still_alive (terms_after (leaves a x))) (fun_ext (after-leaving rank o a x e within))
-          ∙ ap (λ still_on. fails_by_mark pay.mark pay.body (in_set (set u a true)) on (in_set (set u a false)) still_on) (fun_ext (λ n. and-true (nat_lt x.year n)))
+      past =
+          ap (λ still_alive. fails_by_mark pay.mark pay.body (in_set (set u a true)) on still_alive
+          (terms_after (leaves a x))) (fun_ext (after-leaving rank o a x e within))
+          ∙ ap (λ still_on. fails_by_mark pay.mark pay.body (in_set (set u a true)) on (in_set (set u a false))
+          still_on) (fun_ext (λ n. and-true (nat_lt x.year n)))
 
-  on-leaving : (a k : ℕ) → pay.defer ≤ k → T ≤ k → OfMarked pay.mark pay.body (λ s. IsTrue (names_life a s)) → (o : Outcome) → a < length o
-      → indicator (paid_on_leaving pay rank T a k o) ≡ indicator (leaves_in (asked pay.causes) k (get_or o a None)) *ℤ derivative (existence pay k) a (there_at (looked_at rank a k) o)
+  on-leaving : (a k : ℕ) → pay.defer ≤ k → T ≤ k → OfMarked pay.mark pay.body (λ s. IsTrue (names_life a s))
+      → (o : Outcome) → a < length o
+      → indicator (paid_on_leaving pay rank T a k o)
+      ≡ indicator (leaves_in (asked pay.causes) k (get_or o a None)) *ℤ derivative (existence pay k) a
+      (there_at (looked_at rank a k) o)
   on-leaving a k deferred started named o within = go (get_or o a None) refl
     where
-      in_year : (x : Exit) (k : ℕ) → x.year ≡ k → indicator (falls_on pay rank T o (leaves a x)) ≡ indicator (asked pay.causes x.cause) *ℤ derivative (existence pay x.year) a (there_at (looked_at rank a x.year) o)
-          → indicator (nat_eq x.year k && falls_on pay rank T o (leaves a x)) ≡ indicator (nat_eq x.year k && asked pay.causes x.cause) *ℤ derivative (existence pay k) a (there_at (looked_at rank a k) o)
+      in_year : (x : Exit) (k : ℕ) → x.year ≡ k
+          → indicator (falls_on pay rank T o (leaves a x))
+          ≡ indicator (asked pay.causes x.cause) *ℤ derivative (existence pay x.year) a
+          (there_at (looked_at rank a x.year) o)
+          → indicator (nat_eq x.year k && falls_on pay rank T o (leaves a x))
+          ≡ indicator (nat_eq x.year k && asked pay.causes x.cause) *ℤ derivative (existence pay k) a
+          (there_at (looked_at rank a k) o)
       in_year x k q h = rw (← q, same-is x.year) h
 
-      go : (way : Option Exit) → get_or o a None ≡ way → indicator (paid_at_exit pay rank T a k o way) ≡ indicator (leaves_in (asked pay.causes) k way) *ℤ derivative (existence pay k) a (there_at (looked_at rank a k) o)
+      go : (way : Option Exit) → get_or o a None ≡ way
+          → indicator (paid_at_exit pay rank T a k o way)
+          ≡ indicator (leaves_in (asked pay.causes) k way) *ℤ derivative (existence pay k) a
+          (there_at (looked_at rank a k) o)
       go None e = omega (arith, ints)
       go (Some x) e = ⊎_elim
           (λ h. in_year x k h.1 (at-exit o a x e within (omega arith) (omega arith) named))
@@ -159,8 +211,10 @@ module _ (pay : PlainPay) (is : IsValidInsurance pay) (rank : ℕ → ℕ) (T : 
 pub chance-on-leaving : ChanceOnLeaving
 unfolding form
 chance-on-leaving pay is rank T a k deferred started named S alive lives rule year =
-    expected-ext T S lives _ _ (λ o n. on-leaving pay is rank T a k deferred started named o (omega (arith, HasYear-within a k lives year)))
-    ∙ expected-at-leaving a (asked pay.causes) k (looked_at rank a k) T started (λ i. from (nat_lt (rank i) (rank a))) S alive lives rule year (existence pay k)
+    expected-ext T S lives _ _ (λ o n. on-leaving pay is rank T a k deferred started named o
+    (omega (arith, HasYear-within a k lives year)))
+    ∙ expected-at-leaving a (asked pay.causes) k (looked_at rank a k) T started (λ i. from (nat_lt (rank i) (rank a))) S
+    alive lives rule year (existence pay k)
   where
     from : (b : Bool) → T ≤ cond b (suc k) k
     from true = omega arith

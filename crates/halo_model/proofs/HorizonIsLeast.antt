@@ -22,11 +22,14 @@ module _ (left : ℕ → ℕ) (years : ℕ) where
     named-within (last ms) h i e = any-named-within ms h i e
     named-within (at_least r ms) h i e = any-named-within ms h i e
     named-within (exactly r ms) h i e = any-named-within ms h i e
-    named-within (after s t) h i e = either (names_life i s) (names_life i t) e (named-within s (omega arith) i) (named-within t (omega arith) i)
+    named-within (after s t) h i e =
+        either (names_life i s) (names_life i t) e (named-within s (omega arith) i) (named-within t (omega arith) i)
 
     any-named-within : (ms : Trees) → longest_of left ms ≤ years → (i : ℕ) → any_names_life i ms ≡ true → left i ≤ years
     any-named-within none h i e = absurd (cc)
-    any-named-within (more s ms) h i e = either (names_life i s) (any_names_life i ms) e (named-within s (omega arith) i) (any-named-within ms (omega arith) i)
+    any-named-within (more s ms) h i e =
+        either (names_life i s) (any_names_life i ms) e (named-within s (omega arith) i)
+        (any-named-within ms (omega arith) i)
 
   mutual
     term-within : (s : Tree) → longest left s ≤ years → (n : ℕ) → names_term n s ≡ true → n ≤ years
@@ -36,14 +39,18 @@ module _ (left : ℕ → ℕ) (years : ℕ) where
     term-within (last ms) h n e = any-term-within ms h n e
     term-within (at_least r ms) h n e = any-term-within ms h n e
     term-within (exactly r ms) h n e = any-term-within ms h n e
-    term-within (after s t) h n e = either (names_term n s) (names_term n t) e (term-within s (omega arith) n) (term-within t (omega arith) n)
+    term-within (after s t) h n e =
+        either (names_term n s) (names_term n t) e (term-within s (omega arith) n) (term-within t (omega arith) n)
 
     any-term-within : (ms : Trees) → longest_of left ms ≤ years → (n : ℕ) → any_names_term n ms ≡ true → n ≤ years
     any-term-within none h n e = absurd (cc)
-    any-term-within (more s ms) h n e = either (names_term n s) (any_names_term n ms) e (term-within s (omega arith) n) (any-term-within ms (omega arith) n)
+    any-term-within (more s ms) h n e =
+        either (names_term n s) (any_names_term n ms) e (term-within s (omega arith) n)
+        (any-term-within ms (omega arith) n)
 
   mutual
-    longest-within : (s : Tree) → ((i : ℕ) → names_life i s ≡ true → left i ≤ years) → ((n : ℕ) → names_term n s ≡ true → n ≤ years) → longest left s ≤ years
+    longest-within : (s : Tree) → ((i : ℕ) → names_life i s ≡ true → left i ≤ years)
+        → ((n : ℕ) → names_term n s ≡ true → n ≤ years) → longest left s ≤ years
     longest-within (life i) lives terms = lives i (same i)
     longest-within (term n) lives terms = terms n (same n)
     longest-within (joint ms) lives terms = longest_of-within ms lives terms
@@ -53,15 +60,18 @@ module _ (left : ℕ → ℕ) (years : ℕ) where
     longest-within (after s t) lives terms = omega (
       arith,
       longest-within s (λ i e. lives i (or-left _ _ e)) (λ n e. terms n (or-left _ _ e)),
-      longest-within t (λ i e. lives i (or-right (names_life i s) _ e)) (λ n e. terms n (or-right (names_term n s) _ e)),
+      longest-within t (λ i e. lives i (or-right (names_life i s) _ e))
+          (λ n e. terms n (or-right (names_term n s) _ e)),
     )
 
-    longest_of-within : (ms : Trees) → ((i : ℕ) → any_names_life i ms ≡ true → left i ≤ years) → ((n : ℕ) → any_names_term n ms ≡ true → n ≤ years) → longest_of left ms ≤ years
+    longest_of-within : (ms : Trees) → ((i : ℕ) → any_names_life i ms ≡ true → left i ≤ years)
+        → ((n : ℕ) → any_names_term n ms ≡ true → n ≤ years) → longest_of left ms ≤ years
     longest_of-within none lives terms = omega arith
     longest_of-within (more s ms) lives terms = omega (
       arith,
       longest-within s (λ i e. lives i (or-left _ _ e)) (λ n e. terms n (or-left _ _ e)),
-      longest_of-within ms (λ i e. lives i (or-right (names_life i s) _ e)) (λ n e. terms n (or-right (names_term n s) _ e)),
+      longest_of-within ms (λ i e. lives i (or-right (names_life i s) _ e))
+          (λ n e. terms n (or-right (names_term n s) _ e)),
     )
 
 pub horizon-is-least : HorizonIsLeast
@@ -72,5 +82,10 @@ horizon-is-least lives body years = (
     each_life = named-within (years_left_of lives) years body (omega arith);
     each_term = term-within (years_left_of lives) years body (omega arith);
   },
-  λ covers. omega (arith, covers.one, longest-within (years_left_of lives) years body covers.each_life covers.each_term),
+  λ covers. omega (
+    arith,
+    covers.one,
+    longest-within (years_left_of lives) years body covers.each_life
+        covers.each_term,
+  ),
 )

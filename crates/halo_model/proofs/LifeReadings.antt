@@ -23,29 +23,45 @@ abbrev pub at_leaving : (ℕ → Bool) → ℕ → Reading
 at_leaving causes k way true = indicator (leaves_in causes k way)
 at_leaving causes k way false = neg_ℤ (indicator (leaves_in causes k way))
 
-pub at_time-inside : (x : PlainLife) → IsLife x → (T t : ℕ) → T ≤ t → (alive : Bool) → reading_sum (at_time t) T alive x true ≡ cond alive (pos (x.survivors t)) (pos 0)
-at_time-inside x rule T t h alive = one-life x rule T t h alive indicator ∙ first-of (cond alive (pos (x.survivors t)) (pos 0)) (cond alive (pos (x.survivors T) -ℤ pos (x.survivors t)) (pos 1))
+pub at_time-inside : (x : PlainLife) → IsLife x → (T t : ℕ) → T ≤ t → (alive : Bool)
+    → reading_sum (at_time t) T alive x true ≡ cond alive (pos (x.survivors t)) (pos 0)
+at_time-inside x rule T t h alive =
+    one-life x rule T t h alive indicator ∙ first-of (cond alive (pos (x.survivors t)) (pos 0))
+    (cond alive (pos (x.survivors T) -ℤ pos (x.survivors t)) (pos 1))
   where
     first-of : (c d : ℤ) → c *ℤ pos 1 +ℤ d *ℤ pos 0 ≡ c
     first-of c d = omega (arith, ints)
 
-pub at_time-both : (x : PlainLife) → IsLife x → (T t : ℕ) → T ≤ t → (alive : Bool) → reading_sum (at_time t) T alive x true +ℤ reading_sum (at_time t) T alive x false ≡ cond alive (pos (x.survivors T)) (pos 1)
-at_time-both x rule T t h alive = ap (λ z. z +ℤ reading_sum (at_time t) T alive x false) (at_time-inside x rule T t h alive)
-    ∙ ap (λ z. cond alive (pos (x.survivors t)) (pos 0) +ℤ z) (one-life x rule T t h alive (λ b. indicator (not b)) ∙ second-of (cond alive (pos (x.survivors t)) (pos 0)) (cond alive (pos (x.survivors T) -ℤ pos (x.survivors t)) (pos 1)))
+pub at_time-both : (x : PlainLife) → IsLife x → (T t : ℕ) → T ≤ t → (alive : Bool)
+    → reading_sum (at_time t) T alive x true +ℤ reading_sum (at_time t) T alive x false
+    ≡ cond alive (pos (x.survivors T)) (pos 1)
+at_time-both x rule T t h alive =
+    ap (λ z. z +ℤ reading_sum (at_time t) T alive x false) (at_time-inside x rule T t h alive)
+    ∙ ap (λ z. cond alive (pos (x.survivors t)) (pos 0) +ℤ z)
+    (one-life x rule T t h alive (λ b. indicator (not b))
+    ∙ second-of (cond alive (pos (x.survivors t)) (pos 0))
+    (cond alive (pos (x.survivors T) -ℤ pos (x.survivors t)) (pos 1)))
     ∙ together alive
   where
     second-of : (c d : ℤ) → c *ℤ pos 0 +ℤ d *ℤ pos 1 ≡ d
     second-of c d = omega (arith, ints)
 
-    together : (alive : Bool) → cond alive (pos (x.survivors t)) (pos 0) +ℤ cond alive (pos (x.survivors T) -ℤ pos (x.survivors t)) (pos 1) ≡ cond alive (pos (x.survivors T)) (pos 1)
+    together : (alive : Bool)
+        → cond alive (pos (x.survivors t)) (pos 0) +ℤ cond alive (pos (x.survivors T) -ℤ pos (x.survivors t)) (pos 1)
+        ≡ cond alive (pos (x.survivors T)) (pos 1)
     together true = omega (arith, ints)
     together false = refl
 
-pub at_leaving-inside : (x : PlainLife) (T k : ℕ) (causes : ℕ → Bool) → T ≤ k → k < x.years_left → reading_sum (at_leaving causes k) T true x true ≡ pos (leavers_by causes x k)
-at_leaving-inside x T k causes h within = int_sum_over-ways T x (λ way. pos (exit_weight x way) *ℤ indicator (leaves_in causes k way))
-    ∙ int_sum_over-ext (numbers_from T (x.years_left - T)) _ _ (λ i. int_sum_over-ext (numbers_from 0 x.causes) _ _ (λ j. split (nat_eq i k) (causes j) (x.leavers i j))
-    ∙ int_sum_over-scale (numbers_from 0 x.causes) (indicator (nat_eq i k)) (λ j. pos (cond (causes j) (x.leavers i j) 0))
-    ∙ ap (λ z. indicator (nat_eq i k) *ℤ z) (int_sum_over-pos (numbers_from 0 x.causes) (λ j. cond (causes j) (x.leavers i j) 0)))
+pub at_leaving-inside : (x : PlainLife) (T k : ℕ) (causes : ℕ → Bool) → T ≤ k → k < x.years_left
+    → reading_sum (at_leaving causes k) T true x true ≡ pos (leavers_by causes x k)
+at_leaving-inside x T k causes h within =
+    int_sum_over-ways T x (λ way. pos (exit_weight x way) *ℤ indicator (leaves_in causes k way))
+    ∙ int_sum_over-ext (numbers_from T (x.years_left - T)) _ _
+    (λ i. int_sum_over-ext (numbers_from 0 x.causes) _ _ (λ j. split (nat_eq i k) (causes j) (x.leavers i j))
+    ∙ int_sum_over-scale (numbers_from 0 x.causes) (indicator (nat_eq i k))
+    (λ j. pos (cond (causes j) (x.leavers i j) 0))
+    ∙ ap (λ z. indicator (nat_eq i k) *ℤ z) (int_sum_over-pos (numbers_from 0 x.causes)
+    (λ j. cond (causes j) (x.leavers i j) 0)))
     ∙ int_sum_over-pick (x.years_left - T) T k (λ i. pos (leavers_by causes x i)) h (omega arith)
   where
     split : (year cause : Bool) (n : ℕ) → pos n *ℤ indicator (year && cause) ≡ indicator year *ℤ pos (cond cause n 0)
@@ -53,9 +69,13 @@ at_leaving-inside x T k causes h within = int_sum_over-ways T x (λ way. pos (ex
     split true false n = omega (arith, ints)
     split false cause n = omega (arith, ints)
 
-pub at_leaving-both : (x : PlainLife) (T k : ℕ) (causes : ℕ → Bool) (alive : Bool) → reading_sum (at_leaving causes k) T alive x true +ℤ reading_sum (at_leaving causes k) T alive x false ≡ pos 0
+pub at_leaving-both : (x : PlainLife) (T k : ℕ) (causes : ℕ → Bool) (alive : Bool)
+    → reading_sum (at_leaving causes k) T alive x true +ℤ reading_sum (at_leaving causes k) T alive x false ≡ pos 0
 at_leaving-both x T k causes alive = cancel (ways T alive x)
   where
-    cancel : (some_ways : List (Option Exit)) → int_sum_over some_ways (λ way. pos (exit_weight x way) *ℤ indicator (leaves_in causes k way)) +ℤ int_sum_over some_ways (λ way. pos (exit_weight x way) *ℤ neg_ℤ (indicator (leaves_in causes k way))) ≡ pos 0
+    cancel : (some_ways : List (Option Exit))
+        → int_sum_over some_ways (λ way. pos (exit_weight x way) *ℤ indicator (leaves_in causes k way)) +ℤ int_sum_over
+        some_ways (λ way. pos (exit_weight x way) *ℤ neg_ℤ (indicator (leaves_in causes k way))) ≡ pos 0
     cancel [] = refl
-    cancel (way ∷ some_ways) = omega (arith, ints, cancel some_ways, mul_neg (pos (exit_weight x way)) (indicator (leaves_in causes k way)))
+    cancel (way ∷ some_ways) =
+        omega (arith, ints, cancel some_ways, mul_neg (pos (exit_weight x way)) (indicator (leaves_in causes k way)))

@@ -13,19 +13,24 @@ use Rattle.halo_model.specs.Chance.{IsValidInsurance, OfMarked}
 pub valid-mark : (pay : PlainPay) → IsValidInsurance pay → IfSome pay.mark (CanBeMarked pay.body)
 valid-mark pay is = go pay.mark is.valid.mark
   where
-    go : (mark : Option Mark) → IfSome mark (λ m. (pay.kind ≡ Insurance) × CanBeMarked pay.body m) → IfSome mark (CanBeMarked pay.body)
+    go : (mark : Option Mark) → IfSome mark (λ m. (pay.kind ≡ Insurance) × CanBeMarked pay.body m)
+        → IfSome mark (CanBeMarked pay.body)
     go None h = tt
     go (Some m) h = h.1
 
 -- each other member shares nothing with a status that has the property
 abbrev pub ApartFrom : Tree → (Tree → Type 0) → Mark → Type 0
-ApartFrom body P m = (q : ℕ) (t : Tree) → q ≢ m.member → member_at (members_of body) q ≡ Some t → (s : Tree) × P s × SharesNothing s t
+ApartFrom body P m =
+    (q : ℕ) (t : Tree) → q ≢ m.member → member_at (members_of body) q ≡ Some t → (s : Tree) × P s × SharesNothing s t
 
-pub apart-from-marked : (mark : Option Mark) (body : Tree) → IfSome mark (CanBeMarked body) → (P : Tree → Type 0) → OfMarked mark body P → IfSome mark (ApartFrom body P)
+pub apart-from-marked : (mark : Option Mark) (body : Tree) → IfSome mark (CanBeMarked body) → (P : Tree → Type 0)
+    → OfMarked mark body P → IfSome mark (ApartFrom body P)
 apart-from-marked None body valid P has = tt
-apart-from-marked (Some m) (joint ms) valid P has = λ q t other at. marked_is (member_at ms m.member) refl has q t other at
+apart-from-marked (Some m) (joint ms) valid P has =
+    λ q t other at. marked_is (member_at ms m.member) refl has q t other at
   where
-    marked_is : (found : Option Tree) → member_at ms m.member ≡ found → IsSomeAnd found P → (q : ℕ) (t : Tree) → q ≢ m.member → member_at ms q ≡ Some t → (s : Tree) × P s × SharesNothing s t
+    marked_is : (found : Option Tree) → member_at ms m.member ≡ found → IsSomeAnd found P → (q : ℕ) (t : Tree)
+        → q ≢ m.member → member_at ms q ≡ Some t → (s : Tree) × P s × SharesNothing s t
     marked_is None e h q t other at = absurd h
     marked_is (Some s) e h q t other at = (s, h, valid.apart m.member q s t (λ same. other (sym same)) e at)
 apart-from-marked (Some m) (life i) valid P has = absurd valid

@@ -26,22 +26,48 @@ module _ (x : PlainLife) (rule : IsLife x) (t : ℕ) (g : Bool → ℤ) where
 
   from-t : (years k : ℕ) → years ≡ x.years_left - k → t ≤ k → sum_from years k ≡ pos (x.survivors k) *ℤ g true
   from-t zero k e h = rw (rule.ends k (omega arith)) (omega (arith, ints))
-  from-t (suc years) k e h = rw (reached k h, from-t years (suc k) (omega arith) (omega arith), rule.falls k, pos_add (leavers_in x k) (x.survivors (suc k)))
+  from-t (suc years) k e h =
+      rw (
+        reached k h,
+        from-t years (suc k) (omega arith) (omega arith),
+        rule.falls k,
+        pos_add (leavers_in x k)
+            (x.survivors (suc k)),
+      )
       (omega (arith, ints, add_mul (pos (leavers_in x k)) (pos (x.survivors (suc k))) (g true)))
 
-  up-to-t : (years k : ℕ) → years ≡ x.years_left - k → k ≤ t → sum_from years k ≡ pos (x.survivors t) *ℤ g true +ℤ (pos (x.survivors k) -ℤ pos (x.survivors t)) *ℤ g false
+  up-to-t : (years k : ℕ) → years ≡ x.years_left - k → k ≤ t
+      → sum_from years k ≡ pos (x.survivors t) *ℤ g true +ℤ (pos (x.survivors k) -ℤ pos (x.survivors t)) *ℤ g false
   up-to-t zero k e h = rw (rule.ends k (omega arith), rule.ends t (omega arith)) (omega (arith, ints))
   up-to-t (suc years) k e h = ⊎_elim
-      (λ before. rw (not-reached k before, up-to-t years (suc k) (omega arith) before, rule.falls k, pos_add (leavers_in x k) (x.survivors (suc k)))
-      (omega (arith, ints, sub_mul (pos (leavers_in x k) +ℤ pos (x.survivors (suc k))) (pos (x.survivors t)) (g false), add_mul (pos (leavers_in x k)) (pos (x.survivors (suc k))) (g false), sub_mul (pos (x.survivors (suc k))) (pos (x.survivors t)) (g false))))
-      (λ from. let here : k ≡ t = omega arith in from-t (suc years) k e from ∙ rw here (none-left (pos (x.survivors t)) (g true) (g false)))
+      (λ before. rw (
+        not-reached k before,
+        up-to-t years (suc k) (omega arith) before,
+        rule.falls k,
+        pos_add
+            (leavers_in x k) (x.survivors (suc k)),
+      )
+      (omega (
+        arith,
+        ints,
+        sub_mul (pos (leavers_in x k) +ℤ pos (x.survivors (suc k))) (pos (x.survivors t)) (g false),
+        add_mul (pos (leavers_in x k)) (pos (x.survivors (suc k))) (g false),
+        sub_mul (pos (x.survivors (suc k)))
+            (pos (x.survivors t)) (g false),
+      )))
+      (λ from. let here : k ≡ t = omega arith in from-t (suc years) k e from
+      ∙ rw here (none-left (pos (x.survivors t)) (g true) (g false)))
       (cases_lt k t)
 
--- where g depends on whether a life is there at t: the survivors at t with the one value, and those who leave before with the other
+-- where g depends on whether a life is there at t: the survivors at t with the one value, and those who leave before
+-- with the other
 pub one-life : (x : PlainLife) → IsLife x → (T t : ℕ) → T ≤ t → (alive : Bool) (g : Bool → ℤ)
-    → int_sum_over (ways T alive x) (λ way. pos (exit_weight x way) *ℤ g (there t way)) ≡ cond alive (pos (x.survivors t)) (pos 0) *ℤ g true +ℤ cond alive (pos (x.survivors T) -ℤ pos (x.survivors t)) (pos 1) *ℤ g false
+    → int_sum_over (ways T alive x) (λ way. pos (exit_weight x way) *ℤ g (there t way))
+    ≡ cond alive (pos (x.survivors t)) (pos 0) *ℤ g true +ℤ cond alive (pos (x.survivors T) -ℤ pos (x.survivors t))
+    (pos 1) *ℤ g false
 one-life x rule T t h false g = omega (arith, ints)
 one-life x rule T t h true g = int_sum_over-ways T x (λ way. pos (exit_weight x way) *ℤ g (there t way))
-    ∙ int_sum_over-ext (numbers_from T (x.years_left - T)) _ _ (λ k. int_sum_over-scale_right (numbers_from 0 x.causes) (g (nat_le t k)) (λ j. pos (x.leavers k j))
+    ∙ int_sum_over-ext (numbers_from T (x.years_left - T)) _ _
+    (λ k. int_sum_over-scale_right (numbers_from 0 x.causes) (g (nat_le t k)) (λ j. pos (x.leavers k j))
     ∙ ap (λ z. z *ℤ g (nat_le t k)) (int_sum_over-pos (numbers_from 0 x.causes) (x.leavers k)))
     ∙ up-to-t x rule t g (x.years_left - T) T refl h

@@ -15,7 +15,8 @@ use Rattle.halo_model.specs.ChanceLaws.{NoChanceOnEndOutside, NoChanceOnLeavingO
 use Rattle.halo_model.proofs.Expected.{Comes, expected-none, expected-where}
 
 -- an exit that comes is that of a life that is alive at T, in a year from T on that its table has
-pub comes-year : (T : ℕ) (S : ℕ → Bool) (lives : List PlainLife) (o : Outcome) → Comes T S lives o → (a : ℕ) (x : Exit) → get_or o a None ≡ Some x → (S a ≡ true) × (T ≤ x.year) × HasYear a x.year lives
+pub comes-year : (T : ℕ) (S : ℕ → Bool) (lives : List PlainLife) (o : Outcome) → Comes T S lives o → (a : ℕ) (x : Exit)
+    → get_or o a None ≡ Some x → (S a ≡ true) × (T ≤ x.year) × HasYear a x.year lives
 comes-year T S [] [] comes a x e = absurd (cc)
 comes-year T S [] (way ∷ o) comes a x e = absurd comes
 comes-year T S (y ∷ lives) [] comes a x e = absurd comes
@@ -50,15 +51,18 @@ allowed pay rank T o event e =
     record { deferred = tested _ _ all.0; started = tested _ _ all.1; cause = all.2 }
 
 pub no-chance-on-leaving-outside : NoChanceOnLeavingOutside
-no-chance-on-leaving-outside pay rank T a k S lives cannot = expected-where T S lives _ _ (λ o comes. ap indicator (go o comes (get_or o a None) refl)) ∙ expected-none T S lives
+no-chance-on-leaving-outside pay rank T a k S lives cannot =
+    expected-where T S lives _ _ (λ o comes. ap indicator (go o comes (get_or o a None) refl)) ∙ expected-none T S lives
   where
-    in-year : (o : Outcome) → Comes T S lives o → (x : Exit) → get_or o a None ≡ Some x → x.year ≡ k → falls_on pay rank T o (leaves a x) ≡ true → ⊥
+    in-year : (o : Outcome) → Comes T S lives o → (x : Exit) → get_or o a None ≡ Some x → x.year ≡ k
+        → falls_on pay rank T o (leaves a x) ≡ true → ⊥
     in-year o comes x e here paid =
         let is = comes-year T S lives o comes a x e in
         let by = allowed pay rank T o (leaves a x) paid in
         cannot is.0 (rw here at is.1) (rw here at by.deferred) (rw here at is.2)
 
-    go : (o : Outcome) → Comes T S lives o → (way : Option Exit) → get_or o a None ≡ way → paid_at_exit pay rank T a k o way ≡ false
+    go : (o : Outcome) → Comes T S lives o → (way : Option Exit) → get_or o a None ≡ way
+        → paid_at_exit pay rank T a k o way ≡ false
     go o comes None e = refl
     go o comes (Some x) e = ⊎_elim
         (λ h. rw (refused (falls_on pay rank T o (leaves a x)) (in-year o comes x e h.1)) (and-false (nat_eq x.year k)))
@@ -71,5 +75,9 @@ no-cause (Some causes) n e = absurd (cc)
 
 pub no-chance-on-end-outside : NoChanceOnEndOutside
 no-chance-on-end-outside pay rank T n S lives cannot =
-    int_sum_over-ext (outcomes T S lives) _ _ (λ o. ap (λ b. pos (weight lives o) *ℤ indicator b) (refused (falls_on pay rank T o (ends n)) (λ paid. let by = allowed pay rank T o (ends n) paid in cannot (no-cause pay.causes n by.cause) by.deferred by.started)))
+    int_sum_over-ext (outcomes T S lives) _ _
+    (λ o. ap (λ b. pos (weight lives o) *ℤ indicator b)
+    (refused (falls_on pay rank T o (ends n))
+    (λ paid. let by = allowed pay rank T o (ends n) paid in cannot (no-cause pay.causes n by.cause)
+    by.deferred by.started)))
     ∙ expected-none T S lives

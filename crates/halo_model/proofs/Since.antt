@@ -54,71 +54,112 @@ earlier-leaving T x y ranked h k = grind (arith, nat_tests)
 earlier-end : (T n y : ℕ) → T ≤ n - 1 → y < T → nat_lt (n - 1) y ≡ false
 earlier-end T n y h k = grind (arith, nat_tests)
 
-not_earlier-since : (rank : ℕ → ℕ) (T : ℕ) (event : Event) (i : ℕ) → T ≤ year_of event → (way : Option Exit) → life_not_earlier rank event i (way_since T way) ≡ life_not_earlier rank event i way
+not_earlier-since : (rank : ℕ → ℕ) (T : ℕ) (event : Event) (i : ℕ) → T ≤ year_of event → (way : Option Exit)
+    → life_not_earlier rank event i (way_since T way) ≡ life_not_earlier rank event i way
 not_earlier-since rank T event i h None = refl
 not_earlier-since rank T (leaves a x) i h (Some y) = each (nat_le T y.year) refl
   where
-    each : (stays : Bool) → nat_le T y.year ≡ stays → life_not_earlier rank (leaves a x) i (cond stays (Some y) None) ≡ life_not_earlier rank (leaves a x) i (Some y)
+    each : (stays : Bool) → nat_le T y.year ≡ stays
+        → life_not_earlier rank (leaves a x) i (cond stays (Some y) None)
+        ≡ life_not_earlier rank (leaves a x) i (Some y)
     each true q = refl
     each false q = sym (earlier-leaving T x.year y.year (nat_le (rank a) (rank i)) h (gone T y.year q))
 not_earlier-since rank T (ends n) i h (Some y) = each (nat_le T y.year) refl
   where
-    each : (stays : Bool) → nat_le T y.year ≡ stays → life_not_earlier rank (ends n) i (cond stays (Some y) None) ≡ life_not_earlier rank (ends n) i (Some y)
+    each : (stays : Bool) → nat_le T y.year ≡ stays
+        → life_not_earlier rank (ends n) i (cond stays (Some y) None) ≡ life_not_earlier rank (ends n) i (Some y)
     each true q = refl
     each false q = sym (earlier-end T n y.year h (gone T y.year q))
 
-before-since : (rank : ℕ → ℕ) (T : ℕ) (o : Outcome) (event : Event) → T ≤ year_of event → (i : ℕ) → lives_before rank (since T o) event i ≡ lives_before rank o event i
-before-since rank T o event h i = ap (life_not_earlier rank event i) (get_or-map (way_since T) o i None) ∙ not_earlier-since rank T event i h (get_or o i None)
+before-since : (rank : ℕ → ℕ) (T : ℕ) (o : Outcome) (event : Event) → T ≤ year_of event → (i : ℕ)
+    → lives_before rank (since T o) event i ≡ lives_before rank o event i
+before-since rank T o event h i =
+    ap (life_not_earlier rank event i) (get_or-map (way_since T) o i None)
+    ∙ not_earlier-since rank T event i h (get_or o i None)
 
-falls_on-since : (pay : PlainPay) (rank : ℕ → ℕ) (T : ℕ) (o : Outcome) (event : Event) → falls_on pay rank T (since T o) event ≡ falls_on pay rank T o event
+falls_on-since : (pay : PlainPay) (rank : ℕ → ℕ) (T : ℕ) (o : Outcome) (event : Event)
+    → falls_on pay rank T (since T o) event ≡ falls_on pay rank T o event
 falls_on-since pay rank T o event = each (nat_le T (year_of event)) refl
   where
     fails_in : Outcome → Bool
-    fails_in o = fails_by_mark pay.mark pay.body (lives_before rank o event) (terms_before event) (lives_after rank o event) (terms_after event)
+    fails_in o =
+        fails_by_mark pay.mark pay.body (lives_before rank o event) (terms_before event) (lives_after rank o event)
+        (terms_after event)
 
     alike : T ≤ year_of event → fails_in (since T o) ≡ fails_in o
-    alike h = ap (λ alive. fails_by_mark pay.mark pay.body alive (terms_before event) (lives_after rank (since T o) event) (terms_after event)) (fun_ext (before-since rank T o event h))
-        ∙ ap (λ still_alive. fails_by_mark pay.mark pay.body (lives_before rank o event) (terms_before event) still_alive (terms_after event)) (fun_ext (λ i. ap (λ b. b && not (is_leaving_of event i)) (before-since rank T o event h i)))
+    alike h =
+        ap (λ alive. fails_by_mark pay.mark pay.body alive (terms_before event) (lives_after rank (since T o) event)
+        (terms_after event)) (fun_ext (before-since rank T o event h))
+        ∙ ap (λ still_alive. fails_by_mark pay.mark pay.body (lives_before rank o event) (terms_before event)
+        still_alive (terms_after event)) (fun_ext
+        (λ i. ap (λ b. b && not (is_leaving_of event i)) (before-since rank T o event h i)))
 
     each : (started : Bool) → nat_le T (year_of event) ≡ started
-        → (nat_le pay.defer (year_of event) && started && by_cause pay.causes event && fails_in (since T o)) ≡ (nat_le pay.defer (year_of event) && started && by_cause pay.causes event && fails_in o)
-    each true q = ap (λ b. nat_le pay.defer (year_of event) && true && by_cause pay.causes event && b) (alike (tested T (year_of event) q))
+        → (nat_le pay.defer (year_of event) && started && by_cause pay.causes event && fails_in (since T o))
+        ≡ (nat_le pay.defer (year_of event) && started && by_cause pay.causes event && fails_in o)
+    each true q =
+        ap (λ b. nat_le pay.defer (year_of event) && true && by_cause pay.causes event && b)
+        (alike (tested T (year_of event) q))
     each false q = rw (and-false (nat_le pay.defer (year_of event)))
 
 none-more : (n more : ℕ) → more ≡ 0 → n ≡ more + n
 none-more n more e = omega (arith, e)
 
 module _ (b : Basis) (pay : PlainPay) (rank : ℕ → ℕ) (T : ℕ) where
-  event_value-since : (o : Outcome) (event : Event) → event_value b pay rank T (since T o) event ≡ event_value b pay rank T o event
-  event_value-since o event = ap (λ falls. cond falls (payment pay (year_of event - pay.defer) * discounted b T (suc (year_of event))) 0) (falls_on-since pay rank T o event)
+  event_value-since : (o : Outcome) (event : Event)
+      → event_value b pay rank T (since T o) event ≡ event_value b pay rank T o event
+  event_value-since o event =
+      ap (λ falls. cond falls (payment pay (year_of event - pay.defer) * discounted b T (suc (year_of event))) 0)
+      (falls_on-since pay rank T o event)
 
   -- what came before T is worth nothing
-  event_value-gone : (o : Outcome) (a : ℕ) (x : Exit) → nat_le T x.year ≡ false → event_value b pay rank T o (leaves a x) ≡ 0
+  event_value-gone : (o : Outcome) (a : ℕ) (x : Exit) → nat_le T x.year ≡ false
+      → event_value b pay rank T o (leaves a x) ≡ 0
   event_value-gone o a x q = rw (q, and-false (nat_le pay.defer x.year)) refl
 
-  leavings-since : (all o : Outcome) (i : ℕ) → sum_over (leavings i (since T o)) (event_value b pay rank T all) ≡ sum_over (leavings i o) (event_value b pay rank T all)
+  leavings-since : (all o : Outcome) (i : ℕ)
+      → sum_over (leavings i (since T o)) (event_value b pay rank T all)
+      ≡ sum_over (leavings i o) (event_value b pay rank T all)
   leavings-since all [] i = refl
   leavings-since all (None ∷ o) i = leavings-since all o (suc i)
   leavings-since all (Some x ∷ o) i = each (nat_le T x.year) refl (leavings-since all o (suc i))
     where
-      each : (stays : Bool) → nat_le T x.year ≡ stays → sum_over (leavings (suc i) (since T o)) (event_value b pay rank T all) ≡ sum_over (leavings (suc i) o) (event_value b pay rank T all)
-          → sum_over (leavings i (cond stays (Some x) None ∷ since T o)) (event_value b pay rank T all) ≡ event_value b pay rank T all (leaves i x) + sum_over (leavings (suc i) o) (event_value b pay rank T all)
+      each : (stays : Bool) → nat_le T x.year ≡ stays
+          → sum_over (leavings (suc i) (since T o)) (event_value b pay rank T all)
+          ≡ sum_over (leavings (suc i) o) (event_value b pay rank T all)
+          → sum_over (leavings i (cond stays (Some x) None ∷ since T o)) (event_value b pay rank T all)
+          ≡ event_value b pay rank T all (leaves i x) + sum_over (leavings (suc i) o) (event_value b pay rank T all)
       each true q rest = ap (λ n. event_value b pay rank T all (leaves i x) + n) rest
       each false q rest = rest ∙ none-more _ _ (event_value-gone all i x q)
 
-  at-times : (view : View) (o : Outcome) (times : List ℕ) (deferred : ℕ → Bool) (from : ℕ → Bool) → ((t : ℕ) → from t ≡ true → T ≤ t) → (paid : ℕ → ℕ)
-      → sum_over times (λ t. cond (deferred t && from t && exists (lives_at t (since T o)) (is_on view t) pay.body) (paid t) 0) ≡ sum_over times (λ t. cond (deferred t && from t && exists (lives_at t o) (is_on view t) pay.body) (paid t) 0)
-  at-times view o times deferred from started paid = sum_over-ext times _ _ (λ t. ap (λ pays. cond pays (paid t) 0) (each t (from t) refl))
+  at-times : (view : View) (o : Outcome) (times : List ℕ) (deferred : ℕ → Bool) (from : ℕ → Bool)
+      → ((t : ℕ) → from t ≡ true → T ≤ t) → (paid : ℕ → ℕ)
+      → sum_over times (λ t. cond (deferred t && from t && exists (lives_at t (since T o)) (is_on view t) pay.body)
+      (paid t) 0) ≡ sum_over times (λ t. cond
+      (deferred t && from t && exists (lives_at t o) (is_on view t) pay.body) (paid t) 0)
+  at-times view o times deferred from started paid =
+      sum_over-ext times _ _ (λ t. ap (λ pays. cond pays (paid t) 0) (each t (from t) refl))
     where
-      each : (t : ℕ) (is : Bool) → from t ≡ is → (deferred t && is && exists (lives_at t (since T o)) (is_on view t) pay.body) ≡ (deferred t && is && exists (lives_at t o) (is_on view t) pay.body)
-      each t true q = ap (λ alive. deferred t && true && exists alive (is_on view t) pay.body) (fun_ext (lives_at-since T t (started t q) o))
+      each : (t : ℕ) (is : Bool) → from t ≡ is
+          → (deferred t && is && exists (lives_at t (since T o)) (is_on view t) pay.body)
+          ≡ (deferred t && is && exists (lives_at t o) (is_on view t) pay.body)
+      each t true q =
+          ap (λ alive. deferred t && true && exists alive (is_on view t) pay.body)
+          (fun_ext (lives_at-since T t (started t q) o))
       each t false q = rw (and-false (deferred t))
 
   strictly : (t : ℕ) → nat_lt T t ≡ true → T ≤ t
   strictly t e = grind (arith, nat_tests)
 
-  pub value-since : (kind : Kind) (o : Outcome) → value_by_kind kind b pay rank T (since T o) ≡ value_by_kind kind b pay rank T o
-  value-since Due o = at-times DueView o (numbers_from 0 (suc b.last_time)) (λ t. nat_le pay.defer t) (λ t. nat_le T t) (tested T) (λ t. payment pay (t - pay.defer) * discounted b T t)
-  value-since Immediate o = at-times ImmediateView o (numbers_from 1 b.last_time) (λ t. nat_lt pay.defer t) (λ t. nat_lt T t) strictly (λ t. payment pay (t - pay.defer - 1) * discounted b T t)
-  value-since Insurance o = ap (λ f. sum_over (leavings 0 (since T o)) f + sum_over (term_ends b.last_time pay.body) f) (fun_ext (event_value-since o))
+  pub value-since : (kind : Kind) (o : Outcome)
+      → value_by_kind kind b pay rank T (since T o) ≡ value_by_kind kind b pay rank T o
+  value-since Due o =
+      at-times DueView o (numbers_from 0 (suc b.last_time)) (λ t. nat_le pay.defer t) (λ t. nat_le T t) (tested T)
+      (λ t. payment pay (t - pay.defer) * discounted b T t)
+  value-since Immediate o =
+      at-times ImmediateView o (numbers_from 1 b.last_time) (λ t. nat_lt pay.defer t) (λ t. nat_lt T t) strictly
+      (λ t. payment pay (t - pay.defer - 1) * discounted b T t)
+  value-since Insurance o =
+      ap (λ f. sum_over (leavings 0 (since T o)) f + sum_over (term_ends b.last_time pay.body) f)
+      (fun_ext (event_value-since o))
       ∙ ap (λ n. n + sum_over (term_ends b.last_time pay.body) (event_value b pay rank T o)) (leavings-since o o 0)

@@ -32,7 +32,8 @@ form_rows = record {
 
 -- two lists of which one has 1 for x and the other 0 are not equal
 differ : (a b : List ℤ) → get_or a 2 (pos 0) ≡ pos 0 → get_or b 2 (pos 0) ≡ pos 1 → a ≢ b
-differ a b zero_at one_at e = absurd (let q : pos 0 ≡ pos 1 = sym zero_at ∙ ap (λ l. get_or l 2 (pos 0)) e ∙ one_at in omega (arith, ints, q))
+differ a b zero_at one_at e =
+    absurd (let q : pos 0 ≡ pos 1 = sym zero_at ∙ ap (λ l. get_or l 2 (pos 0)) e ∙ one_at in omega (arith, ints, q))
 
 due-on : IsUniform (plain Due (joint (both x two_years))) 2 (from_to 0 1)
 unfolding form coefficient
@@ -74,7 +75,9 @@ even_leaver-IsLife n = record { falls = falls n; ends = λ k past. omega arith }
 
 due-value : pos (numerator long_basis (plain Due (joint (both x y))) 0 all_lives) ≡ pos 55675
 unfolding form coefficient
-due-value = due-by-parts long_basis (even_leaver-IsLife 60, (even_leaver-IsLife 50, tt)) (plain Due (joint (both x y))) refl refl 0 all_lives ∙ refl
+due-value =
+    due-by-parts long_basis (even_leaver-IsLife 60, (even_leaver-IsLife 50, tt)) (plain Due (joint (both x y))) refl
+    refl 0 all_lives ∙ refl
 
 pub long_rows : LongRows
 unfolding horizon width_count printed_pay_width form coefficient denominator

@@ -60,5 +60,6 @@ unfolding numerator denominator
 interest_rows = record { due_x = refl }
 
 pub premium_rows : PremiumRows
-unfolding numerator denominator total_numerator premium_numerator premium_denominator reserve_numerator reserve_denominator
+unfolding numerator denominator total_numerator premium_numerator premium_denominator reserve_numerator
+    reserve_denominator
 premium_rows = record { premium = refl; reserve = refl; last_premium = refl; last_reserve = refl }

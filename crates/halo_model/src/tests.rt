@@ -1,3 +1,4 @@
+// Horizons and counts of short contracts, worked by hand.
 ghost use Rattle.std.specs.Prelude.{◌≤◌, [], ◌∷◌, IfOk, ◌≡◌};
 ghost use Rattle.halo_status.specs.StatusTree.{tree_of};
 ghost use Rattle.halo_status.specs.Tree.{joint, life, more, none, term};

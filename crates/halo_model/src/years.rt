@@ -5,6 +5,7 @@ ghost use Rattle.halo_table.specs.DecrementTable.{HasRow};
 ghost use Rattle.halo_model.specs.FromTables.{life_of, lives_of};
 ghost use Rattle.halo_model.specs.Horizon.{HasRows, HasShortTerms, HaveRows, HaveShortTerms, horizon, longest, longest_of, years_left_of};
 
+use halo_interest::LAST_TIME;
 use halo_status::{Members, Status};
 use halo_table::{Life, Tables};
 
@@ -17,7 +18,7 @@ pub fn horizon(body: &Status, tables: &Tables, lives: &[Life]) -> u16
     requires terms { HasShortTerms (tree_of body.now) }
     ensures years { result ≡ horizon (lives_of tables.now lives.now) (tree_of body.now) }
     ensures some { 1 ≤ result }
-    ensures few { result ≤ 200 }
+    ensures few { result ≤ LAST_TIME }
 {
     longest(body, tables, lives).max(1)
 }
@@ -39,7 +40,7 @@ fn longest(body: &Status, tables: &Tables, lives: &[Life]) -> u16
     requires terms { HasShortTerms (tree_of body.now) }
     ensures years { result
         ≡ longest (years_left_of (lives_of tables.now lives.now)) (tree_of body.now) }
-    ensures few { result ≤ 200 }
+    ensures few { result ≤ LAST_TIME }
 {
     match body {
         Status::Life(i) => years_left(tables, lives[usize::from(*i)]),
@@ -61,7 +62,7 @@ fn longest_of(members: &Members, tables: &Tables, lives: &[Life]) -> u16
     requires terms { HaveShortTerms (trees_in members.now) }
     ensures years { result
         ≡ longest_of (years_left_of (lives_of tables.now lives.now)) (trees_in members.now) }
-    ensures few { result ≤ 200 }
+    ensures few { result ≤ LAST_TIME }
 {
     let mut years = 0;
     for i in 0..members.len() {

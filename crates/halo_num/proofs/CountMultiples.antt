@@ -12,7 +12,8 @@ signed-count count small = omega (arith, ints)
 pub least-multiple : (lo hi : ℤ) (count : ℕ) → lo ≤ℤ hi → int_min (lo *ℤ pos count) (hi *ℤ pos count) ≡ lo *ℤ pos count
 least-multiple lo hi count order = let kept = mul_le_pos lo hi count order in omega (arith, ints, clamps)
 
-pub greatest-multiple : (lo hi : ℤ) (count : ℕ) → lo ≤ℤ hi → int_max (lo *ℤ pos count) (hi *ℤ pos count) ≡ hi *ℤ pos count
+pub greatest-multiple : (lo hi : ℤ) (count : ℕ) → lo ≤ℤ hi
+    → int_max (lo *ℤ pos count) (hi *ℤ pos count) ≡ hi *ℤ pos count
 greatest-multiple lo hi count order = let kept = mul_le_pos lo hi count order in omega (arith, ints, clamps)
 
 -- a multiple of what is not below 0 is not below 0

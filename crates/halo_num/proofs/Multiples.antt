@@ -36,10 +36,12 @@ scale_pos a n d u k p =
 scale_neg : (a n : ℤ) (d u k : ℕ) → (a *ℤ pos d) ≤ℤ (n *ℤ pos u) → (n *ℤ negsuc k *ℤ pos u) ≤ℤ (a *ℤ negsuc k *ℤ pos d)
 scale_neg a n d u k p =
     let s = scale_pos a n d u (suc k) p
-    in rw (*ℤ-negsuc n k, *ℤ-negsuc a k, neg_mul (n *ℤ pos (suc k)) (pos u), neg_mul (a *ℤ pos (suc k)) (pos d)) (omega (arith, ints, s))
+    in rw (*ℤ-negsuc n k, *ℤ-negsuc a k, neg_mul (n *ℤ pos (suc k)) (pos u), neg_mul (a *ℤ pos (suc k)) (pos d))
+    (omega (arith, ints, s))
 
 -- the ends times a number, in order
-scale_ends : (a : Ends) (k n : ℤ) (d : ℕ) → Encloses a n d → Encloses (record { lo = int_min (a.lo *ℤ k) (a.hi *ℤ k); hi = int_max (a.lo *ℤ k) (a.hi *ℤ k) }) (n *ℤ k) d
+scale_ends : (a : Ends) (k n : ℤ) (d : ℕ) → Encloses a n d
+    → Encloses (record { lo = int_min (a.lo *ℤ k) (a.hi *ℤ k); hi = int_max (a.lo *ℤ k) (a.hi *ℤ k) }) (n *ℤ k) d
 scale_ends a (pos k) n d p =
     let x = a.lo *ℤ pos k
     in let y = a.hi *ℤ pos k
@@ -56,5 +58,6 @@ scale_ends a (negsuc k) n d p =
     }
 
 -- a multiple
-pub encloses_scale : (a r : Ends) (k n : ℤ) (d : ℕ) → r.lo ≡ int_min (a.lo *ℤ k) (a.hi *ℤ k) → r.hi ≡ int_max (a.lo *ℤ k) (a.hi *ℤ k) → Encloses a n d → Encloses r (n *ℤ k) d
+pub encloses_scale : (a r : Ends) (k n : ℤ) (d : ℕ) → r.lo ≡ int_min (a.lo *ℤ k) (a.hi *ℤ k)
+    → r.hi ≡ int_max (a.lo *ℤ k) (a.hi *ℤ k) → Encloses a n d → Encloses r (n *ℤ k) d
 encloses_scale a r k n d e f p = let h = scale_ends a k n d p in record { low = rw e h.low; high = rw f h.high }

@@ -32,7 +32,8 @@ pub ceiling_at : (r z w d : ℤ) → IsCeiling r z d → z ≡ w → IsCeiling r
 ceiling_at r z w d f e = rw (← e) f
 
 -- ends in printed units enclose what the ends in fine units do
-pub printed_encloses : (a : Ends) (l h n : ℤ) (d : ℕ) → IsFloor l a.lo (pos printed) → IsCeiling h a.hi (pos printed) → Encloses a n d → EnclosesPrinted l h n d
+pub printed_encloses : (a : Ends) (l h n : ℤ) (d : ℕ) → IsFloor l a.lo (pos printed) → IsCeiling h a.hi (pos printed)
+    → Encloses a n d → EnclosesPrinted l h n d
 printed_encloses a l h n d f c p =
     let s = mul_le_pos (l *ℤ pos printed) a.lo d f.reached
     in let t = mul_le_pos a.hi (h *ℤ pos printed) d c.reached
@@ -43,6 +44,10 @@ printed_encloses a l h n d f c p =
     in let y = mul-pos-pos n printed printed
     in let m = mul_comm printed d
     in record {
-      low = le_of_mul_pos (l *ℤ pos d) (n *ℤ pos printed) printed (lit< tt) (rw (y, v, ← m, ← u) (omega (arith, ints, s, p.low)));
-      high = le_of_mul_pos (n *ℤ pos printed) (h *ℤ pos d) printed (lit< tt) (rw (y, x, ← m, ← w) (omega (arith, ints, t, p.high)));
+      low =
+          le_of_mul_pos (l *ℤ pos d) (n *ℤ pos printed) printed (lit< tt)
+          (rw (y, v, ← m, ← u) (omega (arith, ints, s, p.low)));
+      high =
+          le_of_mul_pos (n *ℤ pos printed) (h *ℤ pos d) printed (lit< tt)
+          (rw (y, x, ← m, ← w) (omega (arith, ints, t, p.high)));
     }

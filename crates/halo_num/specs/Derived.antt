@@ -5,8 +5,10 @@ use Rattle.halo_num.specs.Enclosure.{Encloses}
 
 -- i is a quotient: it encloses each quotient of a fraction in the one by a fraction in the other
 pub record IsQuotient (dividend divisor i : Ends) : Type 0 where
-  pub encloses : (n : ℤ) (m d : ℕ) → Encloses dividend n d → Encloses divisor (pos m) d → Encloses i n m
-  pub narrow : (v w t : ℕ) → dividend.hi ≤ℤ pos (t * fine) → HasWidth dividend v → HasWidth divisor w
+  pub encloses : (n : ℤ) (m d : ℕ) → Encloses dividend n d → Encloses divisor (pos m) d
+      → Encloses i n m
+  pub narrow : (v w t : ℕ) → dividend.hi ≤ℤ pos (t * fine) → HasWidth dividend v
+      → HasWidth divisor w
       → HasWidth i (v + t * w + 1)
   pub from : pos 0 ≤ℤ i.lo
   pub bound : (t : ℕ) → dividend.hi ≤ℤ pos (t * fine) → i.hi ≤ℤ pos (t * fine)

@@ -1,3 +1,4 @@
+// Intervals of fine units, and their arithmetic, rounded outward.
 ghost use Rattle.std.specs.Prelude.{◌≡◌, ℕ, ◌+◌, ◌-◌, ◌*◌, ◌/◌, ◌^◌, ◌<◌, ◌≤◌, ℤ, pos, ◌+ℤ◌, ◌-ℤ◌, ◌*ℤ◌, ◌≤ℤ◌, neg_ℤ};
 ghost use Rattle.std.specs.Int.{int_min, int_max};
 ghost use Rattle.halo_num.specs.Ends.{fine, printed, printed_ceiling, IsWithin, IsSized, HasWidth};
@@ -99,7 +100,8 @@ impl Ival {
         requires o_in { IsWithin o (neg_ℤ (pos (10 ^ 36))) (pos (10 ^ 36)) }
         ensures lo { result.lo ≡ self.lo +ℤ o.lo }
         ensures hi { result.hi ≡ self.hi +ℤ o.hi }
-        ensures encloses { (n m : ℤ) (d : ℕ) → Encloses self n d → Encloses o m d → Encloses result (n +ℤ m) d }
+        ensures encloses { (n m : ℤ) (d : ℕ) → Encloses self n d → Encloses o m d →
+            Encloses result (n +ℤ m) d }
         ensures narrow { (v w : ℕ) → HasWidth self v → HasWidth o w → HasWidth result (v + w) }
     {
         Ival {
@@ -114,7 +116,8 @@ impl Ival {
         requires o_in { IsWithin o (neg_ℤ (pos (10 ^ 36))) (pos (10 ^ 36)) }
         ensures lo { result.lo ≡ self.lo -ℤ o.hi }
         ensures hi { result.hi ≡ self.hi -ℤ o.lo }
-        ensures encloses { (n m : ℤ) (d : ℕ) → Encloses self n d → Encloses o m d → Encloses result (n -ℤ m) d }
+        ensures encloses { (n m : ℤ) (d : ℕ) → Encloses self n d → Encloses o m d →
+            Encloses result (n -ℤ m) d }
         ensures narrow { (v w : ℕ) → HasWidth self v → HasWidth o w → HasWidth result (v + w) }
     {
         Ival {
@@ -151,13 +154,14 @@ impl Ival {
         ensures encloses { (n m : ℤ) (d e : ℕ) → Encloses self n d → Encloses o m e →
             Encloses result (n *ℤ m) (d * e) }
         ensures from { pos 0 ≤ℤ result.lo }
-        ensures within { self.hi ≤ℤ pos fine → o.hi ≤ℤ pos fine → IsWithin result (pos 0) (pos fine) }
+        ensures within { self.hi ≤ℤ pos fine → o.hi ≤ℤ pos fine →
+            IsWithin result (pos 0) (pos fine) }
         ensures bound { (a b : ℕ) → self.hi ≤ℤ pos (a * fine) → o.hi ≤ℤ pos (b * fine) →
             result.hi ≤ℤ pos (a * b * fine) }
-        ensures narrow { (v w : ℕ) → self.hi ≤ℤ pos fine → o.hi ≤ℤ pos fine → HasWidth self v → HasWidth o w →
-            HasWidth result (v + w + 1) }
-        ensures width { (v w a b : ℕ) → self.hi ≤ℤ pos (a * fine) → o.hi ≤ℤ pos (b * fine) → HasWidth self v →
-            HasWidth o w → HasWidth result (v * b + w * a + 1) }
+        ensures narrow { (v w : ℕ) → self.hi ≤ℤ pos fine → o.hi ≤ℤ pos fine →
+            HasWidth self v → HasWidth o w → HasWidth result (v + w + 1) }
+        ensures width { (v w a b : ℕ) → self.hi ≤ℤ pos (a * fine) → o.hi ≤ℤ pos (b * fine) →
+            HasWidth self v → HasWidth o w → HasWidth result (v * b + w * a + 1) }
         ensures chance { (n m d e v w : ℕ) → EnclosesChance n d v self → EnclosesChance m e w o →
             EnclosesChance (n * m) (d * e) (v + w + 1) result }
         ensures cost { steps.new ≡ steps.old + 1 }
@@ -194,7 +198,8 @@ impl Ival {
         requires some { 1 ≤ count }
         ensures low { IsFloor result.lo self.lo (pos count) }
         ensures high { IsCeiling result.hi self.hi (pos count) }
-        ensures encloses { (n d : ℕ) → Encloses self (pos n) d → Encloses result (pos n) (d * count) }
+        ensures encloses { (n d : ℕ) → Encloses self (pos n) d →
+            Encloses result (pos n) (d * count) }
         ensures from { pos 0 ≤ℤ result.lo }
         ensures most { (b : ℕ) → self.lo ≤ℤ pos (count * b) → result.lo ≤ℤ pos b }
         ensures narrow { (w : ℕ) → HasWidth self (count * w) → HasWidth result (w + 1) }
@@ -212,15 +217,21 @@ impl Ival {
         requires a_in { IsWithin a (pos 0) (pos fine) }
         requires b_in { IsWithin b (pos 0) (pos fine) }
         ensures least { IsLeastBlend p a b (int_min (blend p.lo a.lo b.lo) (blend p.hi a.lo b.lo)) }
-        ensures greatest { IsGreatestBlend p a b (int_max (blend p.lo a.hi b.hi) (blend p.hi a.hi b.hi)) }
-        ensures low { IsFloor result.lo (int_min (blend p.lo a.lo b.lo) (blend p.hi a.lo b.lo)) (pos fine) }
-        ensures high { IsCeiling result.hi (int_max (blend p.lo a.hi b.hi) (blend p.hi a.hi b.hi)) (pos fine) }
-        ensures encloses { (s x y d e f : ℕ) → Encloses p (pos s) d → Encloses a (pos x) e → Encloses b (pos y) f →
+        ensures greatest { IsGreatestBlend p a b
+            (int_max (blend p.lo a.hi b.hi) (blend p.hi a.hi b.hi)) }
+        ensures low { IsFloor result.lo
+            (int_min (blend p.lo a.lo b.lo) (blend p.hi a.lo b.lo)) (pos fine) }
+        ensures high { IsCeiling result.hi
+            (int_max (blend p.lo a.hi b.hi) (blend p.hi a.hi b.hi)) (pos fine) }
+        ensures encloses { (s x y d e f : ℕ) →
+            Encloses p (pos s) d → Encloses a (pos x) e → Encloses b (pos y) f →
             Encloses result (pos (s * x * f + (d - s) * y * e)) (d * e * f) }
         ensures within { IsWithin result (pos 0) (pos fine) }
-        ensures narrow { (u w : ℕ) → HasWidth p u → HasWidth a w → HasWidth b w → HasWidth result (u + w + 1) }
-        ensures chance { (s d x y e u w : ℕ) → 0 < e → EnclosesChance s d u p → EnclosesChance x e w a →
-            EnclosesChance y e w b → EnclosesChance (s * x + (d - s) * y) (d * e) (u + w + 1) result }
+        ensures narrow { (u w : ℕ) → HasWidth p u → HasWidth a w → HasWidth b w →
+            HasWidth result (u + w + 1) }
+        ensures chance { (s d x y e u w : ℕ) → 0 < e →
+            EnclosesChance s d u p → EnclosesChance x e w a → EnclosesChance y e w b →
+            EnclosesChance (s * x + (d - s) * y) (d * e) (u + w + 1) result }
         ensures cost { steps.new ≡ steps.old + 2 }
     {
         steps.tick();
@@ -253,8 +264,10 @@ impl Ival {
     pub fn to_nano(self) -> Nano
         ensures low { IsFloor result.lo self.lo (pos printed) }
         ensures high { IsCeiling result.hi self.hi (pos printed) }
-        ensures encloses { (n : ℤ) (d : ℕ) → Encloses self n d → EnclosesPrinted result.lo result.hi n d }
-        ensures narrow { (w : ℕ) → HasWidth self w → result.hi ≤ℤ (result.lo +ℤ pos (printed_ceiling w + 1)) }
+        ensures encloses { (n : ℤ) (d : ℕ) → Encloses self n d →
+            EnclosesPrinted result.lo result.hi n d }
+        ensures narrow { (w : ℕ) → HasWidth self w →
+            result.hi ≤ℤ (result.lo +ℤ pos (printed_ceiling w + 1)) }
     {
         Nano {
             lo: printed_down(self.lo),

@@ -1,8 +1,8 @@
 //! A choice by a chance: with the chance `s` the value `x`, else `y`, all of them from 0 to 1.
 //!
-//! The exact blend `s * x + (10^18 - s) * y` of fine units is in units of 10^-36. It goes up in x and
-//! in y, and in a line from y to x as s grows, so its least value has the lower ends of x and y and
-//! one of the two ends of s, and its greatest value the upper ends of x and y and one end of s.
+//! The exact blend `s * x + (10^18 - s) * y` of fine units is in units of 10^-36. It goes up in x
+//! and in y, and in a line from y to x as s grows, so its least value has the lower ends of x and y
+//! and one of the two ends of s, and its greatest value the upper ends of x and y and one end of s.
 
 ghost use Rattle.std.specs.Prelude.{◌≡◌, ◌*◌, ℤ, pos, ◌+ℤ◌, ◌-ℤ◌, ◌*ℤ◌, ◌≤ℤ◌};
 ghost use Rattle.std.specs.Int.{int_min, int_max};
@@ -98,7 +98,8 @@ pub fn least_blend(low_chance: i128, high_chance: i128, x: i128, y: i128) -> i12
     requires x_in { x ≤ℤ pos fine }
     requires y_from { pos 0 ≤ℤ y }
     requires y_in { y ≤ℤ pos fine }
-    ensures floor { IsFloor result (int_min (blend low_chance x y) (blend high_chance x y)) (pos fine) }
+    ensures floor { IsFloor result
+        (int_min (blend low_chance x y) (blend high_chance x y)) (pos fine) }
     ensures from { pos 0 ≤ℤ result }
 {
     let first = exact_blend(low_chance, x, y);
@@ -116,7 +117,8 @@ pub fn greatest_blend(low_chance: i128, high_chance: i128, x: i128, y: i128) -> 
     requires x_in { x ≤ℤ pos fine }
     requires y_from { pos 0 ≤ℤ y }
     requires y_in { y ≤ℤ pos fine }
-    ensures ceiling { IsCeiling result (int_max (blend low_chance x y) (blend high_chance x y)) (pos fine) }
+    ensures ceiling { IsCeiling result
+        (int_max (blend low_chance x y) (blend high_chance x y)) (pos fine) }
     ensures from { pos 0 ≤ℤ result }
     ensures to { result ≤ℤ pos fine }
 {

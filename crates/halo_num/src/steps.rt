@@ -1,3 +1,4 @@
+// The counter of products, which only the proofs see.
 ghost use Rattle.std.specs.Prelude.{◌≡◌, ℕ, ◌+◌, ◌<◌};
 
 use std::marker::Model;

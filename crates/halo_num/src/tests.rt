@@ -1,3 +1,4 @@
+// Intervals at the limits of their ends, and products rounded by hand.
 ghost use Rattle.std.specs.Prelude.{◌≡◌, ◌<◌};
 
 use crate::{Ival, Nano, ONE_IN_FINE_UNITS, Steps};
@@ -147,7 +148,8 @@ fn counted_ends<L: Ledger>(rt: &impl Abort, blank: Blank)
     let nothing = Ival::exact(GREATEST_FACTOR).mul(Ival::exact(0), &mut steps);
     assert_eq!(rt; (nothing.lo(), nothing.hi()), (0, 0));
 
-    // A third of 10^9 + 1/3, in parts: (10^27 + (10^18 - 1)/3) * (10^18 - 1)/3 / 10^18 rounded down.
+    // A third of 10^9 + 1/3, in parts: (10^27 + (10^18 - 1)/3) * (10^18 - 1)/3 / 10^18 rounded
+    // down.
     let wide = Ival::exact(1_000_000_000 * ONE_IN_FINE_UNITS).add(third);
     assert!(rt; wide.lo() >= 0);
     let third_of_wide = wide.mul(third, &mut steps);

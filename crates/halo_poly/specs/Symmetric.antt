@@ -41,7 +41,8 @@ AtLeastIsSum =
 -- and exactly r
 abbrev pub ExactlyIsSum : Type 0
 ExactlyIsSum =
-    (r : ℕ) (bs : List Bool) → indicator (nat_eq (count_true bs) r) ≡ exactly_sum r (map indicator bs)
+    (r : ℕ) (bs : List Bool)
+        → indicator (nat_eq (count_true bs) r) ≡ exactly_sum r (map indicator bs)
 
 -- the j-th symmetric sum counts the parts with j statuses that exist whole
 abbrev pub SymmetricSumCounts : Type 0

@@ -53,9 +53,9 @@ fn multiple(value: Ival, amount: u64) -> Ival
 
 /// The level premium: the value of the benefits over the value of a premium of 1, rounded outward.
 ///
-/// It encloses each quotient of a fraction in `benefits` by one in `due`. With benefits of at most t
-/// ones it is at most t ones, and as wide as the benefits and t times `due` are wide together, and
-/// one fine unit wider at most.
+/// It encloses each quotient of a fraction in `benefits` by one in `due`. With benefits of at most
+/// t ones it is at most t ones, and as wide as the benefits and t times `due` are wide together,
+/// and one fine unit wider at most.
 pub fn premium(benefits: Ival, due: Ival) -> Ival
     requires benefits_from { pos 0 ≤ℤ benefits.lo }
     requires benefits_in { benefits.hi ≤ℤ pos GREATEST_FACTOR }

@@ -1,3 +1,4 @@
+// The net premium of an insurance, worked by hand.
 use crate::{add_pay, premium};
 use halo_num::{Ival, ONE_IN_FINE_UNITS};
 use std::rt::HostRuntime;

@@ -1,3 +1,4 @@
+// How files fall into records and fields.
 use crate::Records;
 use csv::ByteRecord;
 use std::rt::HostRuntime;

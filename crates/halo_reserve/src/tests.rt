@@ -1,3 +1,4 @@
+// The reserves of an insurance, worked by hand.
 ghost use Rattle.std.specs.Prelude.{◌≡◌, ◌<◌};
 
 use crate::reserve;
@@ -8,8 +9,8 @@ use std::rt::HostRuntime;
 use std::sync::ledger::{Blank, Ledger};
 
 // At ages 60, 61 and 62 four, two and one are alive, of whom two, one and one die, and the interest
-// is 1/1. A year on, the insurance on a life that was aged 60 is worth 3/8, an annuity-due on it 5/4,
-// and one until the second year ends 1.
+// is 1/1. A year on, the insurance on a life that was aged 60 is worth 3/8, an annuity-due on it
+// 5/4, and one until the second year ends 1.
 const INSURANCE: i128 = 375_000_000_000_000_000;
 
 const ANNUITY: i128 = 1_250_000_000_000_000_000;

@@ -30,7 +30,8 @@ not_so_many : (r n : ℕ) → 1 ≤ r → n ≡ 0 → nat_eq n r ≡ false
 not_so_many r n h e = grind (arith, nat_tests)
 
 -- the first of at least one member does not exist
-not_all : (ms : Trees) → 1 ≤ member_count ms → NoneTrue (each_exists empty_set empty_set ms) → list_all (λ b. b) (each_exists empty_set empty_set ms) ≡ false
+not_all : (ms : Trees) → 1 ≤ member_count ms → NoneTrue (each_exists empty_set empty_set ms)
+    → list_all (λ b. b) (each_exists empty_set empty_set ms) ≡ false
 not_all none some h = absurd (omega arith)
 not_all (more s ms) some h = rw h.0
 
@@ -44,6 +45,7 @@ mutual
   nobody_there (exactly r ms) lists ranks = not_so_many r _ ranks.0 (count_true-zero _ (no_member ms lists.1 ranks.1))
   nobody_there (after s t) lists ranks = rw (nobody_there t lists.2 ranks.2)
 
-  no_member : (ms : Trees) → AtEachNodeIn HasShortList ms → AtEachNodeIn AsksForSome ms → NoneTrue (each_exists empty_set empty_set ms)
+  no_member : (ms : Trees) → AtEachNodeIn HasShortList ms → AtEachNodeIn AsksForSome ms
+      → NoneTrue (each_exists empty_set empty_set ms)
   no_member none lists ranks = tt
   no_member (more s ms) lists ranks = (nobody_there s lists.0 ranks.0, no_member ms lists.1 ranks.1)

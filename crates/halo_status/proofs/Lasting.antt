@@ -45,21 +45,23 @@ count_true-le (false ∷ bs) (false ∷ cs) h = count_true-le bs cs h.1
 reaches : (r m n : ℕ) → m ≤ n → nat_le r m ≡ true → nat_le r n ≡ true
 reaches r m n h e = grind (arith, nat_tests)
 
-module _ (alive more_alive on more_on : ℕ → Bool) (lives : IsSubset alive more_alive) (terms : IsSubset on more_on) where
-  mutual
-    -- with more lives and more terms, a lasting status goes on existing
-    pub lasts : (s : Tree) → IsLasting s → exists alive on s ≡ true → exists more_alive more_on s ≡ true
-    lasts (life i) lasting e = lives i e
-    lasts (term n) lasting e = terms n e
-    lasts (joint ms) lasting e = all_true _ _ (each_lasts ms lasting.1) e
-    lasts (last ms) lasting e = any_true _ _ (each_lasts ms lasting.1) e
-    lasts (at_least r ms) lasting e = reaches r _ _ (count_true-le _ _ (each_lasts ms lasting.1)) e
-    lasts (exactly r ms) lasting e = absurd lasting.0
-    lasts (after s t) lasting e = absurd lasting.0
+module _ (alive more_alive on more_on : ℕ → Bool) (lives : IsSubset alive more_alive) (terms : IsSubset on more_on)
+  where
+    mutual
+      -- with more lives and more terms, a lasting status goes on existing
+      pub lasts : (s : Tree) → IsLasting s → exists alive on s ≡ true → exists more_alive more_on s ≡ true
+      lasts (life i) lasting e = lives i e
+      lasts (term n) lasting e = terms n e
+      lasts (joint ms) lasting e = all_true _ _ (each_lasts ms lasting.1) e
+      lasts (last ms) lasting e = any_true _ _ (each_lasts ms lasting.1) e
+      lasts (at_least r ms) lasting e = reaches r _ _ (count_true-le _ _ (each_lasts ms lasting.1)) e
+      lasts (exactly r ms) lasting e = absurd lasting.0
+      lasts (after s t) lasting e = absurd lasting.0
 
-    each_lasts : (ms : Trees) → AtEachNodeIn NeverReturns ms → EachImplies (each_exists alive on ms) (each_exists more_alive more_on ms)
-    each_lasts none lasting = tt
-    each_lasts (more s ms) lasting = (lasts s lasting.0, each_lasts ms lasting.1)
+      each_lasts : (ms : Trees) → AtEachNodeIn NeverReturns ms
+          → EachImplies (each_exists alive on ms) (each_exists more_alive more_on ms)
+      each_lasts none lasting = tt
+      each_lasts (more s ms) lasting = (lasts s lasting.0, each_lasts ms lasting.1)
 
 -- what implies a falsehood is false
 contrary : (b c : Bool) → (b ≡ true → c ≡ true) → c ≡ false → b ≡ false

@@ -40,4 +40,5 @@ pub tree_of-After : (s t : Box Status Global) → tree_of (After s t) ≡ after 
 unfolding tree_of trees_of
 tree_of-After s t = search (rules, the_lemmas)
 
-pub ruleset shapes = (tree_of-Life, tree_of-Term, tree_of-Joint, tree_of-Last, tree_of-AtLeast, tree_of-Exactly, tree_of-After)
+pub ruleset shapes =
+    (tree_of-Life, tree_of-Term, tree_of-Joint, tree_of-Last, tree_of-AtLeast, tree_of-Exactly, tree_of-After)

@@ -1,1 +1,2 @@
+-- The lists that statuses are made of.
 pub mod short_list

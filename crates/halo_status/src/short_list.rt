@@ -1,3 +1,4 @@
+// Lists of 1 to 16 items.
 ghost use Rattle.std.specs.Prelude.{◌≡◌, [], ◌∷◌, ◌++◌, ◌<◌, ◌≤◌, length, slice_get, Some, IfOk, OnOk, OnErr};
 ghost use Rattle.halo_status.specs.Bounds.{IsShort};
 

@@ -1,3 +1,4 @@
+// Statuses: lives, terms, and what is made of them.
 ghost use Rattle.std.specs.Prelude.{◌≡◌, ℕ, ◌^◌, ◌<◌, ◌↔◌, IsTrue, min};
 ghost use Rattle.halo_status.specs.Exists.{exists, each_exists};
 ghost use Rattle.halo_sums.specs.Sums.{count_true};

@@ -1,3 +1,4 @@
+// Statuses that exist and that do not, and how often a life stands in them.
 ghost use Rattle.std.specs.Prelude.{◌≡◌, [], ◌∷◌, IfOk};
 ghost use Rattle.halo_status.specs.StatusTree.{tree_of};
 ghost use Rattle.halo_status.specs.Tree.{life, term, joint, after, more, none};

@@ -1,3 +1,4 @@
+// Payments at the beginning or at the end of the years.
 ghost use Rattle.std.specs.Prelude.{◌≡◌};
 ghost use Rattle.halo_status.specs.View.{is_on};
 

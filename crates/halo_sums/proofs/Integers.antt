@@ -48,7 +48,8 @@ mul-pos-pos z d k = mul_assoc z (pos d) (pos k)
 
 -- an order times a natural, and back
 pub mul_le_pos : (a b : ℤ) (k : ℕ) → a ≤ℤ b → (a *ℤ pos k) ≤ℤ (b *ℤ pos k)
-mul_le_pos a b k h = let e : (up a + down b) * k ≤ (up b + down a) * k = mul-le-mul_right k (omega (arith, ints)) in omega (arith, ints)
+mul_le_pos a b k h =
+    let e : (up a + down b) * k ≤ (up b + down a) * k = mul-le-mul_right k (omega (arith, ints)) in omega (arith, ints)
 
 pub le_of_mul_pos : (a b : ℤ) (k : ℕ) → 0 < k → (a *ℤ pos k) ≤ℤ (b *ℤ pos k) → a ≤ℤ b
 le_of_mul_pos a b k p h =
@@ -71,14 +72,17 @@ mul_le_mul a (pos b) c (negsuc d) x y h k = absurd (omega (arith, ints))
 
 -- a factor that is not 0 cancels
 pub lt_of_mul_lt : (x y k : ℕ) → x * k < y * k → x < y
-lt_of_mul_lt x y k h = ⊎_elim (λ (l : x < y). l) (λ (l : y ≤ x). let m : y * k ≤ x * k = mul-le-mul_right k l in absurd (omega arith)) (cases_lt x y)
+lt_of_mul_lt x y k h =
+    ⊎_elim (λ (l : x < y). l) (λ (l : y ≤ x). let m : y * k ≤ x * k = mul-le-mul_right k l in absurd (omega arith))
+        (cases_lt x y)
 
 -- products of any sign: on the left of a sum, with the factors changed, at a difference and a negation
 pub mul_comm : (a b : ℤ) → a *ℤ b ≡ b *ℤ a
 mul_comm a b = omega (arith, ints)
 
 pub mul_add : (a b c : ℤ) → a *ℤ (b +ℤ c) ≡ a *ℤ b +ℤ a *ℤ c
-mul_add a b c = mul_comm a (b +ℤ c) ∙ add_mul b c a ∙ ap (λ z. z +ℤ c *ℤ a) (mul_comm b a) ∙ ap (λ z. a *ℤ b +ℤ z) (mul_comm c a)
+mul_add a b c =
+    mul_comm a (b +ℤ c) ∙ add_mul b c a ∙ ap (λ z. z +ℤ c *ℤ a) (mul_comm b a) ∙ ap (λ z. a *ℤ b +ℤ z) (mul_comm c a)
 
 pub mul_neg : (a b : ℤ) → a *ℤ neg_ℤ b ≡ neg_ℤ (a *ℤ b)
 mul_neg a b = mul_comm a (neg_ℤ b) ∙ neg_mul b a ∙ ap neg_ℤ (mul_comm b a)

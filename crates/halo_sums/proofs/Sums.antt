@@ -25,7 +25,8 @@ module _ {X : Type 0} where
   sum_over-scale_right (x ∷ xs) c f = omega (arith, sum_over-scale_right xs c f)
 
 -- the product over two lists, one behind the other
-pub product_over-append : {X : Type 0} → (xs ys : List X) (f : X → ℕ) → product_over (xs ++ ys) f ≡ product_over xs f * product_over ys f
+pub product_over-append : {X : Type 0} → (xs ys : List X) (f : X → ℕ)
+    → product_over (xs ++ ys) f ≡ product_over xs f * product_over ys f
 product_over-append [] ys f = omega arith
 product_over-append (x ∷ xs) ys f = rw (product_over-append xs ys f) (omega arith)
 
@@ -34,9 +35,11 @@ module _ {X Y : Type 0} where
   sum_over-map h [] f = refl
   sum_over-map h (x ∷ xs) f = ap (λ n. f (h x) + n) (sum_over-map h xs f)
 
-  pub sum_over-flat_map : (h : X → List Y) (xs : List X) (f : Y → ℕ) → sum_over (flat_map h xs) f ≡ sum_over xs (λ x. sum_over (h x) f)
+  pub sum_over-flat_map : (h : X → List Y) (xs : List X) (f : Y → ℕ)
+      → sum_over (flat_map h xs) f ≡ sum_over xs (λ x. sum_over (h x) f)
   sum_over-flat_map h [] f = refl
-  sum_over-flat_map h (x ∷ xs) f = sum_over-append (h x) (flat_map h xs) f ∙ ap (λ n. sum_over (h x) f + n) (sum_over-flat_map h xs f)
+  sum_over-flat_map h (x ∷ xs) f =
+      sum_over-append (h x) (flat_map h xs) f ∙ ap (λ n. sum_over (h x) f + n) (sum_over-flat_map h xs f)
 
 pub sum_over-const : {X : Type 0} (xs : List X) (c : ℕ) → sum_over xs (λ x. c) ≡ length xs * c
 sum_over-const [] c = omega arith
@@ -47,6 +50,9 @@ sum_over-none [] = refl
 sum_over-none (x ∷ xs) = omega (arith, sum_over-none xs)
 
 -- two sums change places
-pub sum_over-swap : {X Y : Type 0} (xs : List X) (ys : List Y) (f : X → Y → ℕ) → sum_over xs (λ x. sum_over ys (f x)) ≡ sum_over ys (λ y. sum_over xs (λ x. f x y))
+pub sum_over-swap : {X Y : Type 0} (xs : List X) (ys : List Y) (f : X → Y → ℕ)
+    → sum_over xs (λ x. sum_over ys (f x)) ≡ sum_over ys (λ y. sum_over xs (λ x. f x y))
 sum_over-swap [] ys f = sym (sum_over-none ys)
-sum_over-swap (x ∷ xs) ys f = ap (λ n. sum_over ys (f x) + n) (sum_over-swap xs ys f) ∙ sym (sum_over-add ys (f x) (λ y. sum_over xs (λ x. f x y)))
+sum_over-swap (x ∷ xs) ys f =
+    ap (λ n. sum_over ys (f x) + n) (sum_over-swap xs ys f)
+        ∙ sym (sum_over-add ys (f x) (λ y. sum_over xs (λ x. f x y)))

@@ -8,6 +8,7 @@ abbrev pub alternating : ℕ → ℤ → ℤ
 alternating zero z = z
 alternating (suc n) z = neg_ℤ (alternating n z)
 
--- the coefficient of a set s for a function f of sets: the sum over the subsets u of s of (-1)^(|s| - |u|) f(u)
+-- the coefficient of a set s for a function f of sets: the sum over the subsets u of s of (-1)^(|s|
+-- - |u|) f(u)
 unfoldable pub coefficient : (List Bool → ℤ) → List Bool → ℤ
 coefficient f s = int_sum_over (subsets s) (λ u. alternating (size_of s - size_of u) (f u))

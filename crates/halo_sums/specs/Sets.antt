@@ -1,4 +1,5 @@
--- Sets of small numbers. A set is a list that says of 0, 1, 2 .. in turn whether the number is in it.
+-- Sets of small numbers. A set is a list that says of 0, 1, 2 .. in turn whether the number is in
+-- it.
 use Rattle.std.specs.Prelude.{ℕ, zero, suc, Bool, true, false, List, [], ◌∷◌, ◌++◌, map, get_or}
 
 -- whether a number is in a set

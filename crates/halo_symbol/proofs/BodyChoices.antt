@@ -57,25 +57,30 @@ abbrev pub BodyAt : ℕ → Type 0
 BodyAt d = (ts : List Piece) → ABody d ts ⊎ NoBody d ts
 
 -- a list, by its first member and the lists that begin later
-list_from : (d : ℕ) (ts : List Piece) → ANode d ts ⊎ NoNode d ts → ((us : List Piece) → length us < length ts → AList d us ⊎ NoMembers d us) → AList d ts ⊎ NoMembers d ts
+list_from : (d : ℕ) (ts : List Piece) → ANode d ts ⊎ NoNode d ts
+    → ((us : List Piece) → length us < length ts → AList d us ⊎ NoMembers d us) → AList d ts ⊎ NoMembers d ts
 list_from d ts (inr none) later = inr (no_first d ts none)
 list_from d ts (inl first) later = elim (byte_next colon first.rest) [
-  | inr ends ↦ inl (record { members = one first.node; rest = first.rest; ends = ends; deep = first.deep; reads = first.reads })
+  | inr ends ↦
+      inl (record { members = one first.node; rest = first.rest; ends = ends; deep = first.deep; reads = first.reads })
   | inl next ↦
-      let shorter : length next.0 < length ts = omega (arith, node_pieces-longer first.node first.rest, ap length first.reads, ap length next.1) in
+      let shorter : length next.0 < length ts =
+          omega (arith, node_pieces-longer first.node first.rest, ap length first.reads, ap length next.1) in
       let reads = first.reads ∙ ap (node_pieces first.node) next.1 in
       elim (later next.0 shorter) [
         | inr none ↦ inr (no_tail d first.node ts next.0 reads none)
         | inl others ↦
             let a = first.deep in
             let b = others.deep in
-            inl (record { members = and first.node others.members; rest = others.rest; ends = others.ends; deep = omega arith; reads = reads ∙ ap (λ ps. node_pieces first.node (byte colon ∷ ps)) others.reads })
+            inl (record { members = and first.node others.members; rest = others.rest; ends = others.ends;
+                deep = omega arith; reads = reads ∙ ap (λ ps. node_pieces first.node (byte colon ∷ ps)) others.reads })
       ]
 ]
 
 list_within : (d : ℕ) → NodeAt d → (fuel : ℕ) (ts : List Piece) → length ts ≤ fuel → AList d ts ⊎ NoMembers d ts
 list_within d node_at zero ts short = list_from d ts (node_at ts) (λ us shorter. absurd (omega arith))
-list_within d node_at (suc fuel) ts short = list_from d ts (node_at ts) (λ us shorter. list_within d node_at fuel us (omega arith))
+list_within d node_at (suc fuel) ts short =
+    list_from d ts (node_at ts) (λ us shorter. list_within d node_at fuel us (omega arith))
 
 list_at : (d : ℕ) → NodeAt d → ListAt d
 list_at d node_at ts = list_within d node_at (length ts) ts (omega arith)
@@ -84,7 +89,9 @@ body_by : (d : ℕ) → ListAt d → BodyAt d
 body_by d list_at ts = elim (list_at ts) [
   | inr none ↦ inr (no_first_list d ts none)
   | inl first ↦ elim (byte_next stroke first.rest) [
-    | inr other ↦ inl (record { body = list first.members; rest = first.rest; ends = (first.ends, other); deep = first.deep; reads = first.reads })
+    | inr other ↦
+        inl (record { body = list first.members; rest = first.rest; ends = (first.ends, other); deep = first.deep;
+            reads = first.reads })
     | inl next ↦
         let reads = first.reads ∙ ap (members_pieces first.members) next.1 in
         elim (list_at next.0) [
@@ -92,7 +99,10 @@ body_by d list_at ts = elim (list_at ts) [
           | inl second ↦
               let a = first.deep in
               let b = second.deep in
-              inl (record { body = reversion first.members second.members; rest = second.rest; ends = second.ends; deep = omega arith; reads = reads ∙ ap (λ ps. members_pieces first.members (byte stroke ∷ ps)) second.reads })
+              inl (record { body = reversion first.members second.members; rest = second.rest; ends = second.ends;
+                  deep =
+                      omega arith; reads =
+                          reads ∙ ap (λ ps. members_pieces first.members (byte stroke ∷ ps)) second.reads })
         ]
   ]
 ]
@@ -101,28 +111,39 @@ bracketed_by : (d : ℕ) → ListAt d → BracketedAt (suc d)
 bracketed_by d list_at ts = elim (byte_next round_open ts) [
   | inr other ↦ inr (no_open (suc d) ts other)
   | inl next ↦ elim (list_at next.0) [
-    | inr none ↦ inr (no_list (suc d) ts next.0 (omega arith) next.1 (let same : d ≡ suc d - 1 = omega arith in subst (λ k. NoMembers k next.0) same none))
+    | inr none ↦
+        inr (no_list (suc d) ts next.0 (omega arith) next.1
+            (let same : d ≡ suc d - 1 = omega arith in subst (λ k. NoMembers k next.0) same none))
     | inl inner ↦
         let reads = next.1 ∙ ap (λ (ps : List Piece). byte round_open ∷ ps) inner.reads in
         elim (byte_next round_close inner.rest) [
           | inr other ↦ inr (no_close (suc d) inner.members ts inner.rest reads inner.ends other)
           | inl close ↦
               let a = inner.deep in
-              inl (record { members = inner.members; rest = close.0; deep = omega arith; reads = reads ∙ ap (λ ps. byte round_open ∷ members_pieces inner.members ps) close.1 })
+              inl (record { members = inner.members; rest = close.0; deep = omega arith;
+                  reads = reads ∙ ap (λ ps. byte round_open ∷ members_pieces inner.members ps) close.1 })
         ]
   ]
 ]
 
 -- a body in brackets, behind the one that opens them
-group_by : (d : ℕ) → BodyAt d → (us : List Piece) → ANode (suc d) (byte round_open ∷ us) ⊎ NoNode (suc d) (byte round_open ∷ us)
+group_by : (d : ℕ) → BodyAt d → (us : List Piece)
+    → ANode (suc d) (byte round_open ∷ us) ⊎ NoNode (suc d) (byte round_open ∷ us)
 unfolding NoBody
 group_by d body_at us = elim (body_at us) [
-  | inr none ↦ inr (no_group (suc d) us (λ body rest deep e. none body (byte round_close ∷ rest) (omega arith) (closes body rest) e))
+  | inr none ↦
+      inr (no_group (suc d) us (λ body rest deep e. none body (byte round_close ∷ rest) (omega arith) (closes body rest)
+          e))
   | inl inner ↦ elim (byte_next round_close inner.rest) [
-    | inr other ↦ inr (no_group (suc d) us (λ body rest deep e. other rest (body_unique inner.body body inner.rest (byte round_close ∷ rest) inner.ends (closes body rest) (sym inner.reads ∙ e)).1))
+    | inr other ↦
+        inr (no_group (suc d) us (λ body rest deep e. other rest
+            (body_unique inner.body body inner.rest (byte round_close ∷ rest) inner.ends (closes body rest)
+                (sym inner.reads ∙ e)).1))
     | inl close ↦
         let a = inner.deep in
-        inl (record { node = group inner.body; rest = close.0; deep = omega arith; reads = ap (λ (ps : List Piece). byte round_open ∷ ps) (inner.reads ∙ ap (body_pieces inner.body) close.1) })
+        inl (record { node = group inner.body; rest = close.0; deep = omega arith;
+            reads =
+                ap (λ (ps : List Piece). byte round_open ∷ ps) (inner.reads ∙ ap (body_pieces inner.body) close.1) })
   ]
 ]
 
@@ -132,49 +153,65 @@ term_at d us = elim (number_next us) [
   | inr none ↦ inr (no_term d _ us refl (λ years vs e. none _ _ e))
   | inl next ↦ elim (byte_next angle_close next.1) [
     | inr other ↦ inr (no_term d _ us refl (λ years vs e. other vs (behind (sym next.2 ∙ e))))
-    | inl close ↦ inl (record { node = term next.0; rest = close.0; deep = omega arith; reads = ap (λ (ps : List Piece). byte angle_open ∷ ps) (next.2 ∙ ap (λ (ps : List Piece). number next.0 ∷ ps) close.1) })
+    | inl close ↦
+        inl (record { node = term next.0; rest = close.0; deep = omega arith;
+            reads =
+                ap (λ (ps : List Piece). byte angle_open ∷ ps)
+                    (next.2 ∙ ap (λ (ps : List Piece). number next.0 ∷ ps) close.1) })
   ]
 ]
 
 -- so many members at least, behind the number
-at_least_by : (d : ℕ) → BracketedAt d → (rank : List ℕ) (us : List Piece) → ANode d (number rank ∷ us) ⊎ NoNode d (number rank ∷ us)
+at_least_by : (d : ℕ) → BracketedAt d → (rank : List ℕ) (us : List Piece)
+    → ANode d (number rank ∷ us) ⊎ NoNode d (number rank ∷ us)
 at_least_by d bracketed_at rank us = elim (byte_next slash us) [
   | inr other ↦ inr (no_at_least d rank _ us refl (λ vs e. absurd (other vs e)))
   | inl next ↦ elim (bracketed_at next.0) [
     | inr none ↦ inr (no_at_least d rank _ us refl (λ vs e. subst (NoBracketed d) (behind (sym next.1 ∙ e)) none))
     | inl inner ↦
         let a = inner.deep in
-        inl (record { node = at_least rank inner.members; rest = inner.rest; deep = omega arith; reads = ap (λ (ps : List Piece). number rank ∷ ps) (next.1 ∙ ap (λ (ps : List Piece). byte slash ∷ ps) inner.reads) })
+        inl (record { node = at_least rank inner.members; rest = inner.rest; deep = omega arith;
+            reads =
+                ap (λ (ps : List Piece). number rank ∷ ps)
+                    (next.1 ∙ ap (λ (ps : List Piece). byte slash ∷ ps) inner.reads) })
   ]
 ]
 
 -- exactly so many members, behind `[`
-exactly_by : (d : ℕ) → BracketedAt d → (us : List Piece) → ANode d (byte square_open ∷ us) ⊎ NoNode d (byte square_open ∷ us)
+exactly_by : (d : ℕ) → BracketedAt d → (us : List Piece)
+    → ANode d (byte square_open ∷ us) ⊎ NoNode d (byte square_open ∷ us)
 exactly_by d bracketed_at us = elim (number_next us) [
   | inr none ↦ inr (no_exactly d _ us refl (λ rank vs e. absurd (none _ _ e)))
   | inl next ↦ elim (byte_next square_close next.1) [
     | inr other ↦ inr (no_exactly d _ us refl (λ rank vs e. absurd (other _ (behind (sym next.2 ∙ e)))))
     | inl close ↦ elim (byte_next slash close.0) [
-      | inr other ↦ inr (no_exactly d _ us refl (λ rank vs e. absurd (other _ (behind (sym close.1 ∙ behind (sym next.2 ∙ e))))))
+      | inr other ↦
+          inr (no_exactly d _ us refl (λ rank vs e. absurd (other _ (behind (sym close.1 ∙ behind (sym next.2 ∙ e))))))
       | inl by ↦ elim (bracketed_at by.0) [
-        | inr none ↦ inr (no_exactly d _ us refl (λ rank vs e. subst (NoBracketed d) (behind (sym by.1 ∙ behind (sym close.1 ∙ behind (sym next.2 ∙ e)))) none))
+        | inr none ↦
+            inr (no_exactly d _ us refl (λ rank vs e. subst (NoBracketed d)
+                (behind (sym by.1 ∙ behind (sym close.1 ∙ behind (sym next.2 ∙ e)))) none))
         | inl inner ↦
             let a = inner.deep in
-            inl (record { node = exactly next.0 inner.members; rest = inner.rest; deep = omega arith; reads = cc (next.2, close.1, by.1, inner.reads) })
+            inl (record { node = exactly next.0 inner.members; rest = inner.rest; deep = omega arith;
+                reads = cc (next.2, close.1, by.1, inner.reads) })
       ]
     ]
   ]
 ]
 
 -- a member, by what stands in brackets
-node_by : (d : ℕ) → BracketedAt d → ((us : List Piece) → ANode d (byte round_open ∷ us) ⊎ NoNode d (byte round_open ∷ us)) → NodeAt d
+node_by : (d : ℕ) → BracketedAt d
+    → ((us : List Piece) → ANode d (byte round_open ∷ us) ⊎ NoNode d (byte round_open ∷ us)) → NodeAt d
 node_by d bracketed_at group_at [] = inr (no_nothing d [] refl)
-node_by d bracketed_at group_at (name text ∷ us) = inl (record { node = life text; rest = us; deep = omega arith; reads = refl })
+node_by d bracketed_at group_at (name text ∷ us) =
+    inl (record { node = life text; rest = us; deep = omega arith; reads = refl })
 node_by d bracketed_at group_at (bar ∷ us) = elim (bracketed_at us) [
   | inr none ↦ inr (no_last d _ us refl none)
   | inl inner ↦
       let a = inner.deep in
-      inl (record { node = last inner.members; rest = inner.rest; deep = omega arith; reads = ap (λ (ps : List Piece). bar ∷ ps) inner.reads })
+      inl (record { node = last inner.members; rest = inner.rest; deep = omega arith;
+          reads = ap (λ (ps : List Piece). bar ∷ ps) inner.reads })
 ]
 node_by d bracketed_at group_at (number rank ∷ us) = at_least_by d bracketed_at rank us
 node_by d bracketed_at group_at (byte b ∷ us) =
@@ -192,8 +229,11 @@ node_by d bracketed_at group_at (byte b ∷ us) =
 
 -- a member, by depth
 node_at : (d : ℕ) → NodeAt d
-node_at zero = node_by zero (λ ts. inr (no_depth zero ts refl)) (λ us. inr (no_group zero us (λ body rest deep e. absurd (omega arith))))
-node_at (suc d) = node_by (suc d) (bracketed_by d (list_at d (node_at d))) (group_by d (body_by d (list_at d (node_at d))))
+node_at zero =
+    node_by zero (λ ts. inr (no_depth zero ts refl))
+        (λ us. inr (no_group zero us (λ body rest deep e. absurd (omega arith))))
+node_at (suc d) =
+    node_by (suc d) (bracketed_by d (list_at d (node_at d))) (group_by d (body_by d (list_at d (node_at d))))
 
 -- a list of this depth comes next or none does
 pub list_to : (d : ℕ) → ListAt d

@@ -17,7 +17,8 @@ byte_next b (bar ∷ ts) = inr (λ us e. absurd (omega (arith, ap first_code e))
 byte_next b (number digits ∷ ts) = inr (λ us e. absurd (omega (arith, ap first_code e)))
 
 -- a number comes next or none does
-pub number_next : (ts : List Piece) → ((digits : List ℕ) × (us : List Piece) × (ts ≡ number digits ∷ us)) ⊎ NoNumberNext ts
+pub number_next : (ts : List Piece)
+    → ((digits : List ℕ) × (us : List Piece) × (ts ≡ number digits ∷ us)) ⊎ NoNumberNext ts
 number_next (number digits ∷ ts) = inl (digits, ts, refl)
 number_next [] = inr (λ digits us e. absurd cc)
 number_next (name text ∷ ts) = inr (λ digits us e. absurd (omega (arith, ap first_code e)))

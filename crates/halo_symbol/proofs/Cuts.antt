@@ -19,7 +19,8 @@ ArePiecesOf (l ∷ ls) [] = ⊥
 ArePiecesOf (l ∷ ls) (p ∷ ps) = IsPieceOf l p × ArePiecesOf ls ps
 
 -- one more of each
-pub pieces_more : (ls : List Lexeme) (ps : List Piece) (l : Lexeme) (p : Piece) → ArePiecesOf ls ps → IsPieceOf l p → ArePiecesOf (ls ++ l ∷ []) (ps ++ p ∷ [])
+pub pieces_more : (ls : List Lexeme) (ps : List Piece) (l : Lexeme) (p : Piece) → ArePiecesOf ls ps → IsPieceOf l p
+    → ArePiecesOf (ls ++ l ∷ []) (ps ++ p ∷ [])
 pieces_more [] [] l p are is = (is, tt)
 pieces_more [] (q ∷ ps) l p are is = absurd are
 pieces_more (k ∷ ls) [] l p are is = absurd are
@@ -30,7 +31,8 @@ pub pieces_lexemes : (ls : List Lexeme) (ps : List Piece) → ArePiecesOf ls ps 
 pieces_lexemes [] [] are = refl
 pieces_lexemes [] (p ∷ ps) are = absurd are
 pieces_lexemes (l ∷ ls) [] are = absurd are
-pieces_lexemes (l ∷ ls) (p ∷ ps) are = ap₂ (λ (k : Lexeme) (ks : List Lexeme). k ∷ ks) are.0.same (pieces_lexemes ls ps are.1)
+pieces_lexemes (l ∷ ls) (p ∷ ps) are =
+    ap₂ (λ (k : Lexeme) (ks : List Lexeme). k ∷ ks) are.0.same (pieces_lexemes ls ps are.1)
 
 -- the piece of a lexeme is a piece
 piece_is : (l : Lexeme) (p : Piece) → IsLexeme l → IsPieceOf l p → IsPiece p
@@ -46,7 +48,8 @@ pieces_are [] (p ∷ ps) good are = absurd are
 pieces_are (l ∷ ls) [] good are = absurd are
 pieces_are (l ∷ ls) (p ∷ ps) good are =
     let follows = subst (λ (k : Lexeme). lexeme.Follows k (texts ls)) (sym are.0.same) good.1 in
-    (piece_is l p good.0 are.0, subst (λ ks. lexeme.Follows (as_lexeme p) (texts ks)) (sym (pieces_lexemes ls ps are.1)) follows, pieces_are ls ps good.2 are.1)
+    (piece_is l p good.0 are.0, subst (λ ks. lexeme.Follows (as_lexeme p) (texts ks)) (sym (pieces_lexemes ls ps are.1))
+        follows, pieces_are ls ps good.2 are.1)
 
 -- the lexeme of a piece is one
 lexeme_is : (p : Piece) → IsPiece p → IsLexeme (as_lexeme p)
@@ -77,11 +80,14 @@ all_one : (ps qs : List Piece) → ArePieces ps → ArePieces qs → map as_lexe
 all_one [] [] are others e = refl
 all_one [] (q ∷ qs) are others e = absurd cc
 all_one (p ∷ ps) [] are others e = absurd cc
-all_one (p ∷ ps) (q ∷ qs) are others e = ap₂ (λ (x : Piece) (xs : List Piece). x ∷ xs) (piece_one p q are.0 others.0 cc) (all_one ps qs are.2 others.2 cc)
+all_one (p ∷ ps) (q ∷ qs) are others e =
+    ap₂ (λ (x : Piece) (xs : List Piece). x ∷ xs) (piece_one p q are.0 others.0 cc) (all_one ps qs are.2 others.2 cc)
 
 -- a word is cut into pieces in one way
 pub pieces_one : (ps qs : List Piece) → ArePieces ps → ArePieces qs → piece_texts ps ≡ piece_texts qs → ps ≡ qs
-pieces_one ps qs are others e = all_one ps qs are others (told_by_texts (map as_lexeme ps) (map as_lexeme qs) (lexemes_are ps are) (lexemes_are qs others) e)
+pieces_one ps qs are others e =
+    all_one ps qs are others (told_by_texts (map as_lexeme ps) (map as_lexeme qs) (lexemes_are ps are)
+        (lexemes_are qs others) e)
 
 -- what stands where there is no token
 abbrev pub no_token : Token

@@ -20,7 +20,9 @@ same_text [] (y ∷ ys) = inr (λ e. absurd cc)
 same_text (x ∷ xs) [] = inr (λ e. absurd cc)
 same_text (x ∷ xs) (y ∷ ys) = elim (cases_eq x y) [
   | inr differ ↦ inr (λ e. differ cc)
-  | inl first ↦ elim (same_text xs ys) [ inr differ ↦ inr (λ e. differ (tail e)) | inl rest ↦ inl (ap₂ (λ (b : ℕ) (bs : List ℕ). b ∷ bs) first rest) ]
+  | inl first ↦
+      elim (same_text xs ys) [ inr differ ↦ inr (λ e. differ (tail e)) | inl rest ↦ inl
+          (ap₂ (λ (b : ℕ) (bs : List ℕ). b ∷ bs) first rest) ]
 ]
 
 -- the kind that letters are, or that they are none
@@ -39,7 +41,8 @@ kind_choice letters = elim (same_text letters (kind_text Insurance)) [
   ]
 ]
   where
-    no_kind_of : (letters ≡ kind_text Insurance → ⊥) → (letters ≡ kind_text Immediate → ⊥) → (letters ≡ kind_text Due → ⊥) → (k : Kind) → letters ≡ kind_text k → ⊥
+    no_kind_of : (letters ≡ kind_text Insurance → ⊥) → (letters ≡ kind_text Immediate → ⊥)
+        → (letters ≡ kind_text Due → ⊥) → (k : Kind) → letters ≡ kind_text k → ⊥
     no_kind_of a b c Insurance = a
     no_kind_of a b c Immediate = b
     no_kind_of a b c Due = c
@@ -64,7 +67,8 @@ digits_first (b ∷ bytes) = elim (digit_choice b) [
   | inr other ↦ record { digits = []; rest = b ∷ bytes; whole = refl; all = All-nil IsDigit; stops = other }
   | inl digit ↦
       let more = digits_first bytes in
-      record { digits = b ∷ more.digits; rest = more.rest; whole = ap (λ bs. b ∷ bs) more.whole; all = All-cons IsDigit b more.digits digit more.all; stops = more.stops }
+      record { digits = b ∷ more.digits; rest = more.rest; whole = ap (λ bs. b ∷ bs) more.whole;
+          all = All-cons IsDigit b more.digits digit more.all; stops = more.stops }
 ]
 
 -- a head that a text is
@@ -88,17 +92,21 @@ no_digits (b ∷ rest) stops (decreasing (n ∷ ns)) k p e =
     stops (subst IsDigit (sym first) (All-head IsDigit n ns p.1))
 
 -- a head by the digits behind `D`
-decreasing_by : (digits rest : List ℕ) → All IsDigit digits → BeginsWithout IsDigit rest → AHead (letter_D ∷ (digits ++ rest)) ⊎ NoHead (letter_D ∷ (digits ++ rest))
+decreasing_by : (digits rest : List ℕ) → All IsDigit digits → BeginsWithout IsDigit rest
+    → AHead (letter_D ∷ (digits ++ rest)) ⊎ NoHead (letter_D ∷ (digits ++ rest))
 decreasing_by [] rest all stops = inr (no_digits rest stops)
 decreasing_by (b ∷ digits) rest all stops =
     let count : IsNumber (b ∷ digits) = (omega arith, all) in
     elim (kind_choice rest) [
-      | inl kind ↦ inl (record { vary = decreasing (b ∷ digits); kind = kind.0; proper = count; is = ap (λ (bs : List ℕ). letter_D ∷ b ∷ (digits ++ bs)) kind.1 })
+      | inl kind ↦
+          inl (record { vary = decreasing (b ∷ digits); kind = kind.0; proper = count;
+              is = ap (λ (bs : List ℕ). letter_D ∷ b ∷ (digits ++ bs)) kind.1 })
       | inr none ↦ inr (no_kind (b ∷ digits) rest count stops none)
     ]
 
 -- no head begins with another byte than `I` and `D`, where the text is no kind
-no_other_head : (b : ℕ) (bytes : List ℕ) → ((k : Kind) → b ∷ bytes ≡ kind_text k → ⊥) → (b ≡ letter_I → ⊥) → (b ≡ letter_D → ⊥) → NoHead (b ∷ bytes)
+no_other_head : (b : ℕ) (bytes : List ℕ) → ((k : Kind) → b ∷ bytes ≡ kind_text k → ⊥) → (b ≡ letter_I → ⊥)
+    → (b ≡ letter_D → ⊥) → NoHead (b ∷ bytes)
 no_other_head b bytes none no_I no_D level k p e = none k e
 no_other_head b bytes none no_I no_D increasing k p e = no_I (ap first_byte e)
 no_other_head b bytes none no_I no_D (decreasing n) k p e = no_D (ap first_byte e)
@@ -126,13 +134,17 @@ head_choice (b ∷ bytes) =
       | inl kind ↦ inl (record { vary = level; kind = kind.0; proper = tt; is = kind.1 })
       | inr none ↦ elim (cases_eq b letter_I) [
         | inl same ↦ subst (λ c. Choice (c ∷ bytes)) (sym same) (elim (kind_choice bytes) [
-          | inl kind ↦ inl (record { vary = increasing; kind = kind.0; proper = tt; is = ap (λ (bs : List ℕ). letter_I ∷ bs) kind.1 })
+          | inl kind ↦
+              inl (record { vary = increasing; kind = kind.0; proper = tt;
+                  is = ap (λ (bs : List ℕ). letter_I ∷ bs) kind.1 })
           | inr no_kind_here ↦ inr (no_increasing bytes no_kind_here)
         ])
         | inr no_I ↦ elim (cases_eq b letter_D) [
           | inl same ↦
               let first = digits_first bytes in
-              subst (λ c. Choice (c ∷ bytes)) (sym same) (subst (λ bs. Choice (letter_D ∷ bs)) (sym first.whole) (decreasing_by first.digits first.rest first.all first.stops))
+              subst (λ c. Choice (c ∷ bytes)) (sym same)
+                  (subst (λ bs. Choice (letter_D ∷ bs)) (sym first.whole)
+                      (decreasing_by first.digits first.rest first.all first.stops))
           | inr no_D ↦ inr (no_other_head b bytes none no_I no_D)
         ]
       ]

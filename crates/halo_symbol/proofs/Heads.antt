@@ -36,7 +36,8 @@ kind_text-no_digit Immediate = λ digit. omega arith
 kind_text-no_digit Due = λ digit. omega arith
 
 -- digits are taken as long as they go
-counts_one : (m n r s : List ℕ) → IsNumber m → IsNumber n → BeginsWithout IsDigit r → BeginsWithout IsDigit s → m ++ r ≡ n ++ s → (m ≡ n) × (r ≡ s)
+counts_one : (m n r s : List ℕ) → IsNumber m → IsNumber n → BeginsWithout IsDigit r → BeginsWithout IsDigit s
+    → m ++ r ≡ n ++ s → (m ≡ n) × (r ≡ s)
 counts_one m n r s h k u v e = let one = lexeme_one (lexeme.number m) (lexeme.number n) r s h k u v e in (cc, one.1)
 
 -- they begin with `A` or `a`, and so with no byte between these
@@ -46,7 +47,8 @@ kind_text-first Immediate b rest low high e = absurd (omega (arith, ap first_byt
 kind_text-first Due b rest low high e = absurd (omega (arith, ap first_byte e))
 
 -- a head is told by its text
-pub head_one : (v w : Vary) (k l : Kind) → IsProperVary v → IsProperVary w → head_text v k ≡ head_text w l → (v ≡ w) × (k ≡ l)
+pub head_one : (v w : Vary) (k l : Kind) → IsProperVary v → IsProperVary w → head_text v k ≡ head_text w l
+    → (v ≡ w) × (k ≡ l)
 head_one level level k l p q e = (refl, kind_one k l e)
 head_one level increasing k l p q e = absurd (kind_text-first k _ _ (omega arith) (omega arith) e)
 head_one level (decreasing n) k l p q e = absurd (kind_text-first k _ _ (omega arith) (omega arith) e)
@@ -64,4 +66,5 @@ pub no_kind : (m rest : List ℕ) → IsNumber m → BeginsWithout IsDigit rest 
     → (v : Vary) (k : Kind) → IsProperVary v → letter_D ∷ (m ++ rest) ≡ head_text v k → ⊥
 no_kind m rest p stops none level k q e = kind_text-first k _ _ (omega arith) (omega arith) (sym e)
 no_kind m rest p stops none increasing k q e = absurd (omega (arith, ap first_byte e))
-no_kind m rest p stops none (decreasing n) k q e = none k (counts_one m n rest (kind_text k) p q stops (kind_text-no_digit k) (tail e)).1
+no_kind m rest p stops none (decreasing n) k q e =
+    none k (counts_one m n rest (kind_text k) p q stops (kind_text-no_digit k) (tail e)).1

@@ -19,28 +19,37 @@ mutual
   node_pieces-longer (exactly rank ms) rest = omega (arith, members_pieces-longer ms (byte round_close ∷ rest))
   node_pieces-longer (group body) rest = omega (arith, body_pieces-longer body (byte round_close ∷ rest))
 
-  pub members_pieces-longer : (ms : plain.Members) (rest : List Piece) → nest_members ms + length rest < length (members_pieces ms rest)
+  pub members_pieces-longer : (ms : plain.Members) (rest : List Piece)
+      → nest_members ms + length rest < length (members_pieces ms rest)
   members_pieces-longer (one m) rest = node_pieces-longer m rest
-  members_pieces-longer (and m ms) rest = omega (arith, node_pieces-longer m (byte colon ∷ members_pieces ms rest), members_pieces-longer ms rest)
+  members_pieces-longer (and m ms) rest =
+      omega (arith, node_pieces-longer m (byte colon ∷ members_pieces ms rest), members_pieces-longer ms rest)
 
-  pub body_pieces-longer : (body : plain.Body) (rest : List Piece) → nest_body body + length rest < length (body_pieces body rest)
+  pub body_pieces-longer : (body : plain.Body) (rest : List Piece)
+      → nest_body body + length rest < length (body_pieces body rest)
   body_pieces-longer (list ms) rest = members_pieces-longer ms rest
-  body_pieces-longer (reversion ms ns) rest = omega (arith, members_pieces-longer ms (byte stroke ∷ members_pieces ns rest), members_pieces-longer ns rest)
+  body_pieces-longer (reversion ms ns) rest =
+      omega (arith, members_pieces-longer ms (byte stroke ∷ members_pieces ns rest), members_pieces-longer ns rest)
 
-marked_pieces-longer : (place : ℕ) (rank : List ℕ) (ms : plain.Members) (rest : List Piece) → nest_members ms + length rest < length (marked_pieces place rank ms rest)
+marked_pieces-longer : (place : ℕ) (rank : List ℕ) (ms : plain.Members) (rest : List Piece)
+    → nest_members ms + length rest < length (marked_pieces place rank ms rest)
 marked_pieces-longer zero rank (one m) rest = omega (arith, node_pieces-longer m (byte caret ∷ number rank ∷ rest))
 marked_pieces-longer zero rank (and m ms) rest =
-    omega (arith, node_pieces-longer m (byte caret ∷ number rank ∷ byte colon ∷ members_pieces ms rest), members_pieces-longer ms rest)
+    omega (arith, node_pieces-longer m (byte caret ∷ number rank ∷ byte colon ∷ members_pieces ms rest),
+        members_pieces-longer ms rest)
 marked_pieces-longer (suc place) rank (one m) rest = node_pieces-longer m rest
 marked_pieces-longer (suc place) rank (and m ms) rest =
-    omega (arith, node_pieces-longer m (byte colon ∷ marked_pieces place rank ms rest), marked_pieces-longer place rank ms rest)
+    omega (arith, node_pieces-longer m (byte colon ∷ marked_pieces place rank ms rest), marked_pieces-longer place rank
+        ms rest)
 
-content_pieces-longer : (mark : Option Mark) (body : plain.Body) (rest : List Piece) → nest_body body + length rest < length (content_pieces mark body rest)
+content_pieces-longer : (mark : Option Mark) (body : plain.Body) (rest : List Piece)
+    → nest_body body + length rest < length (content_pieces mark body rest)
 content_pieces-longer None body rest = body_pieces-longer body rest
 content_pieces-longer (Some mark) (list ms) rest = marked_pieces-longer mark.member mark.rank ms rest
 content_pieces-longer (Some mark) (reversion ms ns) rest = body_pieces-longer (reversion ms ns) rest
 
-other_names_pieces-longer : (names : List (List ℕ)) (rest : List Piece) → length rest ≤ length (other_names_pieces names rest)
+other_names_pieces-longer : (names : List (List ℕ)) (rest : List Piece)
+    → length rest ≤ length (other_names_pieces names rest)
 other_names_pieces-longer [] rest = omega arith
 other_names_pieces-longer (text ∷ names) rest = omega (arith, other_names_pieces-longer names rest)
 

@@ -12,12 +12,15 @@ use Rattle.halo_symbol.specs.declared.tree.Node.{Node}
 
 -- a member more at the end of a list
 pub members_pieces-push : (first : plain.Node) (ms : List Node) (m : Node) (rest : List Piece)
-    → members_pieces (members_of first (ms ++ m ∷ [])) rest ≡ members_pieces (members_of first ms) (byte colon ∷ node_pieces (plain_node m) rest)
+    → members_pieces (members_of first (ms ++ m ∷ [])) rest
+        ≡ members_pieces (members_of first ms) (byte colon ∷ node_pieces (plain_node m) rest)
 members_pieces-push first [] m rest = refl
-members_pieces-push first (o ∷ ms) m rest = ap (λ ps. node_pieces first (byte colon ∷ ps)) (members_pieces-push (plain_node o) ms m rest)
+members_pieces-push first (o ∷ ms) m rest =
+    ap (λ ps. node_pieces first (byte colon ∷ ps)) (members_pieces-push (plain_node o) ms m rest)
 
 -- how deep it is then
-pub nest_members-push : (first : plain.Node) (ms : List Node) (m : Node) → nest_members (members_of first (ms ++ m ∷ [])) ≡ max (nest_members (members_of first ms)) (nest (plain_node m))
+pub nest_members-push : (first : plain.Node) (ms : List Node) (m : Node)
+    → nest_members (members_of first (ms ++ m ∷ [])) ≡ max (nest_members (members_of first ms)) (nest (plain_node m))
 nest_members-push first [] m = refl
 nest_members-push first (o ∷ ms) m = omega (arith, nest_members-push (plain_node o) ms m)
 

@@ -39,7 +39,9 @@ defer_choice ts = elim (number_next ts) [
   | inr none ↦ inl (record { defer = None; rest = ts; ends = none; reads = refl })
   | inl years ↦ elim (byte_next stroke years.1) [
     | inr other ↦ inr (no_stroke years.0 ts years.1 years.2 other)
-    | inl next ↦ inl (record { defer = Some years.0; rest = next.0; ends = tt; reads = years.2 ∙ ap (λ (ps : List Piece). number years.0 ∷ ps) next.1 })
+    | inl next ↦
+        inl (record { defer = Some years.0; rest = next.0; ends = tt;
+            reads = years.2 ∙ ap (λ (ps : List Piece). number years.0 ∷ ps) next.1 })
   ]
 ]
 
@@ -51,15 +53,18 @@ record OtherNames (ts : List Piece) : Type 0 where
   reads : ts ≡ other_names_pieces names rest
 
 abbrev NoOtherNames : List Piece → Type 0
-NoOtherNames ts = (names : List (List ℕ)) (rest : List Piece) → ts ≡ other_names_pieces names (byte brace_close ∷ rest) → ⊥
+NoOtherNames ts =
+    (names : List (List ℕ)) (rest : List Piece) → ts ≡ other_names_pieces names (byte brace_close ∷ rest) → ⊥
 
 -- no names go on, where behind a comma and a name none do
-no_later_names : (text : List ℕ) (ts us : List Piece) → ts ≡ byte comma ∷ name text ∷ us → NoOtherNames us → NoOtherNames ts
+no_later_names : (text : List ℕ) (ts us : List Piece) → ts ≡ byte comma ∷ name text ∷ us → NoOtherNames us
+    → NoOtherNames ts
 no_later_names text ts us s none [] rest e = absurd (omega (arith, ap first_code (sym s ∙ e)))
 no_later_names text ts us s none (n ∷ names) rest e = none names rest (behind (behind (sym s ∙ e)))
 
 -- names by the first, and those that begin later
-names_from : (ts : List Piece) → ((us : List Piece) → length us < length ts → OtherNames us ⊎ NoOtherNames us) → OtherNames ts ⊎ NoOtherNames ts
+names_from : (ts : List Piece) → ((us : List Piece) → length us < length ts → OtherNames us ⊎ NoOtherNames us)
+    → OtherNames ts ⊎ NoOtherNames ts
 names_from ts later = elim (byte_next comma ts) [
   | inr other ↦ inl (record { names = []; rest = ts; ends = other; reads = refl })
   | inl next ↦ elim (name_next next.0) [
@@ -68,7 +73,9 @@ names_from ts later = elim (byte_next comma ts) [
         let reads = next.1 ∙ ap (λ (ps : List Piece). byte comma ∷ ps) first.2 in
         elim (later first.1 (omega (arith, ap length reads))) [
           | inr none ↦ inr (no_later_names first.0 ts first.1 reads none)
-          | inl more ↦ inl (record { names = first.0 ∷ more.names; rest = more.rest; ends = more.ends; reads = reads ∙ ap (λ (ps : List Piece). byte comma ∷ name first.0 ∷ ps) more.reads })
+          | inl more ↦
+              inl (record { names = first.0 ∷ more.names; rest = more.rest; ends = more.ends;
+                  reads = reads ∙ ap (λ (ps : List Piece). byte comma ∷ name first.0 ∷ ps) more.reads })
         ]
   ]
 ]
@@ -93,14 +100,19 @@ causes_choice k ts = elim (byte_next brace_open ts) [
     | inl kind ↦ elim (name_next next.0) [
       | inr none ↦ inr (no_set k ts next.0 next.1 (λ names rest kind e. none _ _ e))
       | inl first ↦ elim (names_within (length first.1) first.1 (omega arith)) [
-        | inr none ↦ inr (no_set k ts next.0 next.1 (λ names rest kind e. none names.others rest (behind (sym first.2 ∙ e))))
+        | inr none ↦
+            inr (no_set k ts next.0 next.1 (λ names rest kind e. none names.others rest (behind (sym first.2 ∙ e))))
         | inl more ↦ elim (byte_next brace_close more.rest) [
           | inr other ↦ inr (no_set k ts next.0 next.1 (λ names rest kind e.
-              no_brace more.names names.others more.rest rest more.ends other (sym more.reads ∙ behind (sym first.2 ∙ e))))
+              no_brace more.names names.others more.rest rest more.ends other
+                  (sym more.reads ∙ behind (sym first.2 ∙ e))))
           | inl close ↦
               let names : Names = record { first = first.0; others = more.names } in
-              let inner = first.2 ∙ ap (λ (ps : List Piece). name first.0 ∷ ps) (more.reads ∙ ap (other_names_pieces more.names) close.1) in
-              inl (record { causes = Some names; rest = close.0; allowed = kind; ends = tt; reads = next.1 ∙ ap (λ (ps : List Piece). byte brace_open ∷ ps) inner })
+              let inner =
+                  first.2 ∙ ap (λ (ps : List Piece). name first.0 ∷ ps)
+                      (more.reads ∙ ap (other_names_pieces more.names) close.1) in
+              inl (record { causes = Some names; rest = close.0; allowed = kind; ends = tt;
+                  reads = next.1 ∙ ap (λ (ps : List Piece). byte brace_open ∷ ps) inner })
         ]
       ]
     ]
@@ -123,19 +135,24 @@ last_place (one m) = (0, refl)
 last_place (and m ms) = (member_count ms, refl)
 
 -- a list with a mark behind its last member, and what stands behind the mark
-marked_choice : (k : Kind) (d : ℕ) (upto : Members) (ts us : List Piece) → Ends (list upto) (byte caret ∷ us) → ts ≡ members_pieces upto (byte caret ∷ us)
+marked_choice : (k : Kind) (d : ℕ) (upto : Members) (ts us : List Piece) → Ends (list upto) (byte caret ∷ us)
+    → ts ≡ members_pieces upto (byte caret ∷ us)
     → AContent k d ts ⊎ NoContent k d ts
 unfolding NoMembers
 marked_choice k d upto ts us stops reads = elim (insurance_or k) [
-  | inr other ↦ inr (no_marked k d (list upto) ts us stops reads (λ rank prefix ms after rest kind. absurd (other kind)))
+  | inr other ↦
+      inr (no_marked k d (list upto) ts us stops reads (λ rank prefix ms after rest kind. absurd (other kind)))
   | inl kind ↦ elim (number_next us) [
-    | inr none ↦ inr (no_marked k d (list upto) ts us stops reads (λ rank prefix ms after rest kind same e. absurd (none _ _ e)))
+    | inr none ↦
+        inr (no_marked k d (list upto) ts us stops reads (λ rank prefix ms after rest kind same e. absurd (none _ _ e)))
     | inl rank ↦ elim (list_to d (members_pieces upto rank.1)) [
-      | inr none ↦ inr (no_marked k d (list upto) ts us stops reads (λ other prefix ms after rest kind same e deep ends whole.
+      | inr none ↦
+          inr (no_marked k d (list upto) ts us stops reads (λ other prefix ms after rest kind same e deep ends whole.
           none ms rest deep ends (ap₂ members_pieces (list_one same) (behind (sym rank.2 ∙ e)) ∙ whole)))
       | inl whole ↦
           let place = last_place upto in
-          let marked = marked_pieces-parts place.0 rank.0 upto whole.members rank.1 whole.rest whole.ends place.1 whole.reads in
+          let marked =
+              marked_pieces-parts place.0 rank.0 upto whole.members rank.1 whole.rest whole.ends place.1 whole.reads in
           inl (record {
             mark = Some (record { member = place.0; rank = rank.0 });
             body = list whole.members;
@@ -149,14 +166,22 @@ marked_choice k d upto ts us stops reads = elim (insurance_or k) [
   ]
 ]
 
-content_by : (k : Kind) (d : ℕ) (ts : List Piece) (body : Body) (rest : List Piece) → Ends body rest → nest_body body ≤ d → ts ≡ body_pieces body rest → AContent k d ts ⊎ NoContent k d ts
+content_by : (k : Kind) (d : ℕ) (ts : List Piece) (body : Body) (rest : List Piece) → Ends body rest
+    → nest_body body ≤ d → ts ≡ body_pieces body rest → AContent k d ts ⊎ NoContent k d ts
 content_by k d ts (list ms) rest ends deep reads = elim (byte_next caret rest) [
-  | inr other ↦ inl (record { mark = None; body = list ms; rest = rest; allowed = tt; ends = (ends, other); deep = deep; reads = reads })
-  | inl next ↦ marked_choice k d ms ts next.0 (subst (Ends (list ms)) next.1 ends) (reads ∙ ap (members_pieces ms) next.1)
+  | inr other ↦
+      inl (record { mark = None; body = list ms; rest = rest; allowed = tt; ends = (ends, other); deep = deep;
+          reads = reads })
+  | inl next ↦
+      marked_choice k d ms ts next.0 (subst (Ends (list ms)) next.1 ends) (reads ∙ ap (members_pieces ms) next.1)
 ]
 content_by k d ts (reversion ms ns) rest ends deep reads = elim (byte_next caret rest) [
-  | inr other ↦ inl (record { mark = None; body = reversion ms ns; rest = rest; allowed = tt; ends = (ends, other); deep = deep; reads = reads })
-  | inl next ↦ inr (no_marked k d (reversion ms ns) ts next.0 (subst (Ends (reversion ms ns)) next.1 ends) (reads ∙ ap (body_pieces (reversion ms ns)) next.1)
+  | inr other ↦
+      inl (record { mark = None; body = reversion ms ns; rest = rest; allowed = tt; ends = (ends, other); deep = deep;
+          reads = reads })
+  | inl next ↦
+      inr (no_marked k d (reversion ms ns) ts next.0 (subst (Ends (reversion ms ns)) next.1 ends)
+          (reads ∙ ap (body_pieces (reversion ms ns)) next.1)
       (λ rank prefix ls after more kind same. absurd cc))
 ]
 
@@ -174,26 +199,40 @@ pub record ASymbol (d : ℕ) (ts : List Piece) : Type 0 where
   pub reads : ts ≡ symbol_pieces symbol rest
 
 -- a symbol, once its head is read
-behind_head : (d : ℕ) (ts us vs : List Piece) (defer : Option (List ℕ)) (text : List ℕ) → ts ≡ defer_pieces defer us → us ≡ name text ∷ vs → AHead text → ASymbol d ts ⊎ NoSymbol d ts
+behind_head : (d : ℕ) (ts us vs : List Piece) (defer : Option (List ℕ)) (text : List ℕ) → ts ≡ defer_pieces defer us
+    → us ≡ name text ∷ vs → AHead text → ASymbol d ts ⊎ NoSymbol d ts
 behind_head d ts us vs defer text reads named head = elim (causes_choice head.kind vs) [
-  | inr none ↦ inr (no_causes d head.vary head.kind ts vs (head_read defer text head.vary head.kind ts us vs vs reads named head.is head.proper refl) none)
+  | inr none ↦
+      inr (no_causes d head.vary head.kind ts vs
+          (head_read defer text head.vary head.kind ts us vs vs reads named head.is head.proper refl) none)
   | inl causes ↦
       let read = head_read defer text head.vary head.kind ts us vs _ reads named head.is head.proper causes.reads in
       elim (byte_next square_open causes.rest) [
-        | inr other ↦ inr (no_brackets d head.vary head.kind causes.causes ts causes.rest read causes.ends (λ s rest allowed kind deep e. other _ e))
+        | inr other ↦
+            inr (no_brackets d head.vary head.kind causes.causes ts causes.rest read causes.ends
+                (λ s rest allowed kind deep e. other _ e))
         | inl opens ↦ elim (content_choice head.kind d opens.0) [
-          | inr none ↦ inr (no_content d head.vary head.kind causes.causes ts causes.rest opens.0 read causes.ends opens.1 none)
+          | inr none ↦
+              inr (no_content d head.vary head.kind causes.causes ts causes.rest opens.0 read causes.ends opens.1 none)
           | inl content ↦
               let brackets = opens.1 ∙ ap (λ (ps : List Piece). byte square_open ∷ ps) content.reads in
               elim (byte_next square_close content.rest) [
-                | inr other ↦ inr (no_square_close d head.vary head.kind causes.causes content.mark content.body ts causes.rest content.rest read causes.ends brackets content.allowed content.ends other)
+                | inr other ↦
+                    inr (no_square_close d head.vary head.kind causes.causes content.mark content.body ts causes.rest
+                        content.rest read causes.ends brackets content.allowed content.ends other)
                 | inl close ↦
-                    let whole = brackets ∙ ap (λ (ps : List Piece). byte square_open ∷ content_pieces content.mark content.body ps) close.1 in
+                    let whole =
+                        brackets ∙ ap (λ (ps : List Piece). byte square_open ∷ content_pieces content.mark content.body
+                            ps) close.1 in
                     inl (record {
-                      symbol = record { defer = read.defer; vary = head.vary; kind = head.kind; causes = causes.causes; body = content.body; mark = content.mark };
+                      symbol =
+                          record { defer = read.defer; vary = head.vary; kind = head.kind; causes = causes.causes;
+                              body = content.body; mark = content.mark };
                       rest = close.0;
                       allowed = record { vary = head.proper; causes = causes.allowed; mark = content.allowed };
-                      reads = read.reads ∙ ap (λ (ps : List Piece). defer_pieces read.defer (name (head_text head.vary head.kind) ∷ causes_pieces causes.causes ps)) whole;
+                      reads =
+                          read.reads ∙ ap (λ (ps : List Piece). defer_pieces read.defer
+                              (name (head_text head.vary head.kind) ∷ causes_pieces causes.causes ps)) whole;
                     })
               ]
         ]
@@ -207,7 +246,9 @@ symbol_to d ts = elim (defer_choice ts) [
   | inl defer ↦ elim (name_next defer.rest) [
     | inr none ↦ inr (no_head d defer.defer ts defer.rest defer.ends defer.reads (λ v k rest proper e. none _ _ e))
     | inl named ↦ elim (head_choice named.0) [
-      | inr none ↦ inr (no_head d defer.defer ts defer.rest defer.ends defer.reads (λ v k rest proper e. none v k proper (text_one (sym named.2 ∙ e))))
+      | inr none ↦
+          inr (no_head d defer.defer ts defer.rest defer.ends defer.reads
+              (λ v k rest proper e. none v k proper (text_one (sym named.2 ∙ e))))
       | inl head ↦ behind_head d ts defer.rest named.1 defer.defer named.0 defer.reads named.2 head
     ]
   ]

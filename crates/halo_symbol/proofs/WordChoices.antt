@@ -39,13 +39,17 @@ pieces_for (l ∷ ls) =
     (first.0 ∷ rest.0, (first.1, rest.1))
 
 -- a word has pieces or has none
-pieces_choice : (word : List ℕ) → ((ps : List Piece) × ArePiecesIn word ps) ⊎ ((ps : List Piece) → ArePiecesIn word ps → ⊥)
+pieces_choice : (word : List ℕ)
+    → ((ps : List Piece) × ArePiecesIn word ps) ⊎ ((ps : List Piece) → ArePiecesIn word ps → ⊥)
 pieces_choice word = elim (cut_or_stuck word) [
   | inl cut ↦
       let lexemes = cut.1.lexemes in
       let found = pieces_for (map (lexeme_of word) cut.0) in
-      inl (found.0, record { each = pieces_are _ _ lexemes.each found.1; whole = ap texts (pieces_lexemes _ _ found.1) ∙ lexemes.whole })
-  | inr stuck ↦ inr (λ ps are. cut_not_stuck word (map as_lexeme ps) stuck.0 (record { each = lexemes_are ps are.each; whole = are.whole }) stuck.1)
+      inl (found.0, record { each = pieces_are _ _ lexemes.each found.1;
+          whole = ap texts (pieces_lexemes _ _ found.1) ∙ lexemes.whole })
+  | inr stuck ↦
+      inr (λ ps are. cut_not_stuck word (map as_lexeme ps) stuck.0 (record { each = lexemes_are ps are.each;
+          whole = are.whole }) stuck.1)
 ]
 
 -- all pieces are read or some are left
@@ -61,11 +65,14 @@ status_by word ps are (inr none) = inr (λ body spells.
     none body [] (omega (arith, body_pieces-longer body [], ap length reads)) (ends_nothing body) reads)
 status_by word ps are (inl read) = elim (nothing_left read.rest) [
   | inl nothing ↦ inl (read.body, spells_status word ps read.body are (read.reads ∙ ap (body_pieces read.body) nothing))
-  | inr some ↦ inr (λ body spells. some (body_unique read.body body read.rest [] read.ends (ends_nothing body) (sym read.reads ∙ pieces_status word ps body are spells)).1)
+  | inr some ↦
+      inr (λ body spells. some (body_unique read.body body read.rest [] read.ends (ends_nothing body)
+          (sym read.reads ∙ pieces_status word ps body are spells)).1)
 ]
 
 -- a word spells a status or none
-pub status_or_none : (word : List ℕ) → ((body : Body) × SpellsStatus word body) ⊎ ((body : Body) → SpellsStatus word body → ⊥)
+pub status_or_none : (word : List ℕ)
+    → ((body : Body) × SpellsStatus word body) ⊎ ((body : Body) → SpellsStatus word body → ⊥)
 status_or_none word = elim (pieces_choice word) [
   | inl cut ↦ status_by word cut.0 cut.1 (body_to (length cut.0) cut.0)
   | inr none ↦ inr (λ body spells. none (body_pieces body []) (status_pieces word body spells))
@@ -78,8 +85,12 @@ symbol_by word ps are (inr none) = inr (λ s spells.
     let reads = pieces_spelled word ps s are spells in
     none s [] spells.proper.allowed (omega (arith, symbol_pieces-longer s [], ap length reads)) reads)
 symbol_by word ps are (inl read) = elim (nothing_left read.rest) [
-  | inl nothing ↦ inl (read.symbol, spells_symbol word ps read.symbol are read.allowed (read.reads ∙ ap (symbol_pieces read.symbol) nothing))
-  | inr some ↦ inr (λ s spells. some (symbol_one read.symbol s read.rest [] read.allowed spells.proper.allowed (sym read.reads ∙ pieces_spelled word ps s are spells)).1)
+  | inl nothing ↦
+      inl (read.symbol, spells_symbol word ps read.symbol are read.allowed
+          (read.reads ∙ ap (symbol_pieces read.symbol) nothing))
+  | inr some ↦
+      inr (λ s spells. some (symbol_one read.symbol s read.rest [] read.allowed spells.proper.allowed
+          (sym read.reads ∙ pieces_spelled word ps s are spells)).1)
 ]
 
 -- a word spells a symbol or none

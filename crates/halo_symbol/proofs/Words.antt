@@ -21,31 +21,41 @@ pub record ArePiecesIn (word : List ℕ) (pieces : List Piece) : Type 0 where
 
 -- the pieces of a symbol are those of the word that spells it
 pub spelled_pieces : (word : List ℕ) (s : Symbol) → SpellsSymbol word s → ArePiecesIn word (symbol_pieces s [])
-spelled_pieces word s spells = record { each = symbol_are s [] spells.proper tt; whole = symbol_texts s [] ∙ sym spells.bytes }
+spelled_pieces word s spells =
+    record { each = symbol_are s [] spells.proper tt; whole = symbol_texts s [] ∙ sym spells.bytes }
 
 -- and there are no others
-pub pieces_spelled : (word : List ℕ) (ps : List Piece) (s : Symbol) → ArePiecesIn word ps → SpellsSymbol word s → ps ≡ symbol_pieces s []
+pub pieces_spelled : (word : List ℕ) (ps : List Piece) (s : Symbol) → ArePiecesIn word ps → SpellsSymbol word s
+    → ps ≡ symbol_pieces s []
 pieces_spelled word ps s are spells =
     let of = spelled_pieces word s spells in
     pieces_one ps (symbol_pieces s []) are.each of.each (are.whole ∙ sym of.whole)
 
 -- a word with the pieces of a symbol spells it
-pub spells_symbol : (word : List ℕ) (ps : List Piece) (s : Symbol) → ArePiecesIn word ps → IsAllowed s → ps ≡ symbol_pieces s [] → SpellsSymbol word s
-spells_symbol word ps s are allowed e = record { proper = symbol_proper s [] allowed (subst ArePieces e are.each); bytes = sym are.whole ∙ ap piece_texts e ∙ symbol_texts s [] }
+pub spells_symbol : (word : List ℕ) (ps : List Piece) (s : Symbol) → ArePiecesIn word ps → IsAllowed s
+    → ps ≡ symbol_pieces s [] → SpellsSymbol word s
+spells_symbol word ps s are allowed e =
+    record { proper = symbol_proper s [] allowed (subst ArePieces e are.each);
+        bytes = sym are.whole ∙ ap piece_texts e ∙ symbol_texts s [] }
 
 -- the pieces of a status are those of the word that spells it
 pub status_pieces : (word : List ℕ) (body : Body) → SpellsStatus word body → ArePiecesIn word (body_pieces body [])
-status_pieces word body spells = record { each = body_are body [] spells.proper tt tt; whole = body_texts body [] ∙ sym spells.bytes }
+status_pieces word body spells =
+    record { each = body_are body [] spells.proper tt tt; whole = body_texts body [] ∙ sym spells.bytes }
 
 -- and there are no others
-pub pieces_status : (word : List ℕ) (ps : List Piece) (body : Body) → ArePiecesIn word ps → SpellsStatus word body → ps ≡ body_pieces body []
+pub pieces_status : (word : List ℕ) (ps : List Piece) (body : Body) → ArePiecesIn word ps → SpellsStatus word body
+    → ps ≡ body_pieces body []
 pieces_status word ps body are spells =
     let of = status_pieces word body spells in
     pieces_one ps (body_pieces body []) are.each of.each (are.whole ∙ sym of.whole)
 
 -- a word with the pieces of a status spells it
-pub spells_status : (word : List ℕ) (ps : List Piece) (body : Body) → ArePiecesIn word ps → ps ≡ body_pieces body [] → SpellsStatus word body
-spells_status word ps body are e = record { proper = (body_proper body [] (subst ArePieces e are.each)).0; bytes = sym are.whole ∙ ap piece_texts e ∙ body_texts body [] }
+pub spells_status : (word : List ℕ) (ps : List Piece) (body : Body) → ArePiecesIn word ps → ps ≡ body_pieces body []
+    → SpellsStatus word body
+spells_status word ps body are e =
+    record { proper = (body_proper body [] (subst ArePieces e are.each)).0;
+        bytes = sym are.whole ∙ ap piece_texts e ∙ body_texts body [] }
 
 -- a body ends where nothing follows
 pub ends_nothing : (body : Body) → Ends body []
@@ -55,9 +65,11 @@ ends_nothing (reversion ms ns) = λ rest e. absurd cc
 -- a word spells at most one symbol
 pub symbol_unique : (word : List ℕ) (s t : Symbol) → SpellsSymbol word s → SpellsSymbol word t → s ≡ t
 symbol_unique word s t one other =
-    (symbol_one s t [] [] one.proper.allowed other.proper.allowed (pieces_spelled word (symbol_pieces s []) t (spelled_pieces word s one) other)).0
+    (symbol_one s t [] [] one.proper.allowed other.proper.allowed
+        (pieces_spelled word (symbol_pieces s []) t (spelled_pieces word s one) other)).0
 
 -- a word spells at most one status
 pub status_unique : (word : List ℕ) (b c : Body) → SpellsStatus word b → SpellsStatus word c → b ≡ c
 status_unique word b c one other =
-    (body_unique b c [] [] (ends_nothing b) (ends_nothing c) (pieces_status word (body_pieces b []) c (status_pieces word b one) other)).0
+    (body_unique b c [] [] (ends_nothing b) (ends_nothing c)
+        (pieces_status word (body_pieces b []) c (status_pieces word b one) other)).0

@@ -1,4 +1,5 @@
--- The grammar of symbols and statuses: the bytes that each of them is written with. Each definition takes the bytes that stand
+-- The grammar of symbols and statuses: the bytes that each of them is written with. Each definition
+-- takes the bytes that stand
 -- behind what it writes.
 use Rattle.std.specs.Prelude.{ℕ, zero, suc, List, [], ◌∷◌, ◌++◌, codes, Option, Some, None}
 use Rattle.halo_status.specs.declared.pay.Kind.{Kind}
@@ -13,8 +14,11 @@ abbrev mutual
   node_bytes (life name) rest = name ++ rest
   node_bytes (term years) rest = angle_open ∷ (years ++ (angle_close ∷ rest))
   node_bytes (last ms) rest = bar_text ++ (round_open ∷ members_bytes ms (round_close ∷ rest))
-  node_bytes (at_least rank ms) rest = rank ++ (slash ∷ round_open ∷ members_bytes ms (round_close ∷ rest))
-  node_bytes (exactly rank ms) rest = square_open ∷ (rank ++ (square_close ∷ slash ∷ round_open ∷ members_bytes ms (round_close ∷ rest)))
+  node_bytes (at_least rank ms) rest =
+      rank ++ (slash ∷ round_open ∷ members_bytes ms (round_close ∷ rest))
+  node_bytes (exactly rank ms) rest =
+      square_open ∷ (rank ++ (square_close ∷ slash ∷ round_open ∷ members_bytes ms
+          (round_close ∷ rest)))
   node_bytes (group body) rest = round_open ∷ body_bytes body (round_close ∷ rest)
 
   -- a list, with `:` between its members
@@ -30,9 +34,11 @@ abbrev mutual
 -- a list with `^` and a rank behind the member at a place, which is one of the list's
 abbrev pub marked_bytes : ℕ → List ℕ → Members → List ℕ → List ℕ
 marked_bytes zero rank (one m) rest = node_bytes m (caret ∷ (rank ++ rest))
-marked_bytes zero rank (and m ms) rest = node_bytes m (caret ∷ (rank ++ (colon ∷ members_bytes ms rest)))
+marked_bytes zero rank (and m ms) rest =
+    node_bytes m (caret ∷ (rank ++ (colon ∷ members_bytes ms rest)))
 marked_bytes (suc place) rank (one m) rest = node_bytes m rest
-marked_bytes (suc place) rank (and m ms) rest = node_bytes m (colon ∷ marked_bytes place rank ms rest)
+marked_bytes (suc place) rank (and m ms) rest =
+    node_bytes m (colon ∷ marked_bytes place rank ms rest)
 
 -- a body with the mark that it may have; only a body that is one list has one
 abbrev pub content_bytes : Option Mark → Body → List ℕ → List ℕ
@@ -65,9 +71,11 @@ other_names_bytes (name ∷ names) rest = comma ∷ (name ++ other_names_bytes n
 -- the set of causes, where there is one
 abbrev pub causes_bytes : Option Names → List ℕ → List ℕ
 causes_bytes None rest = rest
-causes_bytes (Some names) rest = brace_open ∷ (names.first ++ other_names_bytes names.others (brace_close ∷ rest))
+causes_bytes (Some names) rest =
+    brace_open ∷ (names.first ++ other_names_bytes names.others (brace_close ∷ rest))
 
 -- a whole symbol
 abbrev pub symbol_bytes : Symbol → List ℕ → List ℕ
 symbol_bytes s rest =
-    defer_bytes s.defer (head_text s.vary s.kind ++ causes_bytes s.causes (square_open ∷ content_bytes s.mark s.body (square_close ∷ rest)))
+    defer_bytes s.defer (head_text s.vary s.kind ++ causes_bytes s.causes
+        (square_open ∷ content_bytes s.mark s.body (square_close ∷ rest)))

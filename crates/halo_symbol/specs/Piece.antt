@@ -45,7 +45,8 @@ piece_texts pieces = texts (map as_lexeme pieces)
 -- each of these is a piece and is taken as long as it goes
 abbrev pub ArePieces : List Piece → Type 0
 ArePieces [] = ⊤
-ArePieces (piece ∷ pieces) = IsPiece piece × Follows (as_lexeme piece) (piece_texts pieces) × ArePieces pieces
+ArePieces (piece ∷ pieces) =
+    IsPiece piece × Follows (as_lexeme piece) (piece_texts pieces) × ArePieces pieces
 
 -- the number of a piece's kind, with the byte where it is one, and its text
 abbrev pub kind_and_text : Piece → ℕ × List ℕ
@@ -74,4 +75,6 @@ piece_of-kind_and_text (byte b) = refl
 
 -- lists of pieces are told apart by their codes
 abbrev pub coded_pieces : Coded (List Piece)
-coded_pieces = coded_list (code_by (ℕ × List ℕ) (coded× coded_ℕ (coded_list coded_ℕ)) kind_and_text piece_of piece_of-kind_and_text)
+coded_pieces =
+    coded_list (code_by (ℕ × List ℕ) (coded× coded_ℕ (coded_list coded_ℕ)) kind_and_text piece_of
+        piece_of-kind_and_text)

@@ -1,4 +1,5 @@
--- The pieces that symbols and statuses are written with: the grammar once more, over pieces in place of bytes. Each definition
+-- The pieces that symbols and statuses are written with: the grammar once more, over pieces in
+-- place of bytes. Each definition
 -- takes the pieces that stand behind what it writes.
 use Rattle.std.specs.Prelude.{ℕ, zero, suc, List, [], ◌∷◌, Option, Some, None}
 use Rattle.halo_symbol.specs.Characters.{round_open, round_close, comma, slash, colon, angle_open, angle_close, square_open, square_close, caret, brace_open, stroke, brace_close}
@@ -13,9 +14,11 @@ abbrev mutual
   node_pieces (life text) rest = name text ∷ rest
   node_pieces (term years) rest = byte angle_open ∷ number years ∷ byte angle_close ∷ rest
   node_pieces (last ms) rest = bar ∷ byte round_open ∷ members_pieces ms (byte round_close ∷ rest)
-  node_pieces (at_least rank ms) rest = number rank ∷ byte slash ∷ byte round_open ∷ members_pieces ms (byte round_close ∷ rest)
+  node_pieces (at_least rank ms) rest =
+      number rank ∷ byte slash ∷ byte round_open ∷ members_pieces ms (byte round_close ∷ rest)
   node_pieces (exactly rank ms) rest =
-      byte square_open ∷ number rank ∷ byte square_close ∷ byte slash ∷ byte round_open ∷ members_pieces ms (byte round_close ∷ rest)
+      byte square_open ∷ number rank ∷ byte square_close ∷ byte slash ∷ byte round_open ∷
+          members_pieces ms (byte round_close ∷ rest)
   node_pieces (group body) rest = byte round_open ∷ body_pieces body (byte round_close ∷ rest)
 
   -- a list
@@ -31,9 +34,11 @@ abbrev mutual
 -- a list with a mark on the member at a place
 abbrev pub marked_pieces : ℕ → List ℕ → Members → List Piece → List Piece
 marked_pieces zero rank (one m) rest = node_pieces m (byte caret ∷ number rank ∷ rest)
-marked_pieces zero rank (and m ms) rest = node_pieces m (byte caret ∷ number rank ∷ byte colon ∷ members_pieces ms rest)
+marked_pieces zero rank (and m ms) rest =
+    node_pieces m (byte caret ∷ number rank ∷ byte colon ∷ members_pieces ms rest)
 marked_pieces (suc place) rank (one m) rest = node_pieces m rest
-marked_pieces (suc place) rank (and m ms) rest = node_pieces m (byte colon ∷ marked_pieces place rank ms rest)
+marked_pieces (suc place) rank (and m ms) rest =
+    node_pieces m (byte colon ∷ marked_pieces place rank ms rest)
 
 -- a body with the mark that it may have
 abbrev pub content_pieces : Option Mark → Body → List Piece → List Piece
@@ -54,9 +59,11 @@ other_names_pieces (text ∷ texts) rest = byte comma ∷ name text ∷ other_na
 -- the set of causes, where there is one
 abbrev pub causes_pieces : Option Names → List Piece → List Piece
 causes_pieces None rest = rest
-causes_pieces (Some names) rest = byte brace_open ∷ name names.first ∷ other_names_pieces names.others (byte brace_close ∷ rest)
+causes_pieces (Some names) rest =
+    byte brace_open ∷ name names.first ∷ other_names_pieces names.others (byte brace_close ∷ rest)
 
 -- a whole symbol
 abbrev pub symbol_pieces : Symbol → List Piece → List Piece
 symbol_pieces s rest =
-    defer_pieces s.defer (name (head_text s.vary s.kind) ∷ causes_pieces s.causes (byte square_open ∷ content_pieces s.mark s.body (byte square_close ∷ rest)))
+    defer_pieces s.defer (name (head_text s.vary s.kind) ∷ causes_pieces s.causes
+        (byte square_open ∷ content_pieces s.mark s.body (byte square_close ∷ rest)))

@@ -1,4 +1,5 @@
--- What the parts of symbols and statuses have to be: names are names, numbers are numbers, and causes and marks stand where
+-- What the parts of symbols and statuses have to be: names are names, numbers are numbers, and
+-- causes and marks stand where
 -- they may.
 use Rattle.std.specs.Prelude.{◌≡◌, ◌≢◌, ◌<◌, ℕ, List, All, Option, IfSome, ⊤}
 use Rattle.halo_text.specs.Number.{IsNumber}

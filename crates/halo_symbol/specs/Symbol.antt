@@ -24,7 +24,8 @@ pub record Mark : Type 0 where
   -- the digits of r
   pub rank : List ℕ
 
--- a symbol; of `10|D5A{death}[x^1:y]` the deferral is `10`, the variation is `D5`, the kind is that of `A`, and so on
+-- a symbol; of `10|D5A{death}[x^1:y]` the deferral is `10`, the variation is `D5`, the kind is that
+-- of `A`, and so on
 pub record Symbol : Type 0 where
   -- the digits of the deferral
   pub defer : Option (List ℕ)

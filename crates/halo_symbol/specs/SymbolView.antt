@@ -17,7 +17,8 @@ plain_vary (vary.Decreasing count) = plain.decreasing count.now
 
 -- a set of names
 abbrev pub plain_names : Names → plain.Names
-plain_names names = record { first = names.first.now; others = map (λ name. name.now) names.others.items }
+plain_names names =
+    record { first = names.first.now; others = map (λ name. name.now) names.others.items }
 
 -- a mark
 abbrev pub plain_mark : Mark → plain.Mark

@@ -1,4 +1,5 @@
--- Statuses as they are written: trees that keep the brackets, and names and numbers as the bytes that write them.
+-- Statuses as they are written: trees that keep the brackets, and names and numbers as the bytes
+-- that write them.
 use Rattle.std.specs.Prelude.{ℕ, suc, List}
 
 mutual

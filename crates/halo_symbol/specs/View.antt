@@ -1,4 +1,5 @@
--- The plain forms of the trees in memory: what they are, without the places of their parts in memory.
+-- The plain forms of the trees in memory: what they are, without the places of their parts in
+-- memory.
 use Rattle.std.specs.Prelude.{List, [], ◌∷◌}
 use Rattle.halo_symbol.specs.Tree as plain
 use Rattle.halo_symbol.specs.declared.tree.Members.{Members}
@@ -18,7 +19,8 @@ abbrev mutual
   -- a body
   pub plain_body : Body → plain.Body
   plain_body (List' p m l ms) = plain.list (plain_row (plain_node m) ms)
-  plain_body (Reversion' p m l ms q n k ns) = plain.reversion (plain_row (plain_node m) ms) (plain_row (plain_node n) ns)
+  plain_body (Reversion' p m l ms q n k ns) =
+      plain.reversion (plain_row (plain_node m) ms) (plain_row (plain_node n) ns)
 
   -- a list: a first member, and those behind it as memory holds them
   pub plain_row : plain.Node → {m : _} → Row_of-Node m → plain.Members

@@ -1,3 +1,4 @@
+// Words that are symbols, and words that are not.
 use crate::{WordError, read_status, read_symbol};
 use std::rt::HostRuntime;
 

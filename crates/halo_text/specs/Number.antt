@@ -16,7 +16,8 @@ IsNumber text = (0 < length text) × All IsDigit text
 abbrev pub number : List ℕ → ℕ
 number text = digits_value 10 text
 
--- what reading a number answers: the number where it is at most the limit, and else what is wrong with the text
+-- what reading a number answers: the number where it is at most the limit, and else what is wrong
+-- with the text
 abbrev pub ReadsNumber : List ℕ → ℕ → Result ℕ NumberFault → Type 0
 ReadsNumber text limit (Ok value) = IsNumber text × (value ≡ number text) × (value ≤ limit)
 ReadsNumber text limit (Err fault.NotNumber) = IsNumber text → ⊥

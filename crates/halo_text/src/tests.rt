@@ -1,3 +1,4 @@
+// Names and numbers as bytes.
 use crate::{NumberFault, is_name, number_up_to};
 use std::rt::HostRuntime;
 

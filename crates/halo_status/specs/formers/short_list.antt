@@ -1,1 +1,2 @@
+-- Lists of 1 to 16 items.
 pub mod ShortList

@@ -13,4 +13,6 @@ abbrev pub decreases-longest_of : goal.decreases-longest_of
 decreases-longest_of l = 2 * nodes_in (trees_in l.members.now) + 1
 
 abbrev pub invariant-longest_of-loop-i : goal.invariant-longest_of-loop-i
-invariant-longest_of-loop-i l = (max l.years (longest_of (years_left_of (lives_of l.tables l.lives)) (trees_in (drop l.i l.members))) ≡ longest_of (years_left_of (lives_of l.tables l.lives)) (trees_in l.members)) × (l.years ≤ 200)
+invariant-longest_of-loop-i l =
+    (max l.years (longest_of (years_left_of (lives_of l.tables l.lives)) (trees_in (drop l.i l.members)))
+    ≡ longest_of (years_left_of (lives_of l.tables l.lives)) (trees_in l.members)) × (l.years ≤ 200)

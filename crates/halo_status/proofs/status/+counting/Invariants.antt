@@ -7,4 +7,5 @@ use Rattle.halo_status.proofs.status.+counting.Given as goal
 abbrev pub invariant-nodes_of-loop-member : goal.invariant-nodes_of-loop-member
 invariant-nodes_of-loop-member l =
     (l.count + nodes_in (trees_in (drop l.member-index l.members)) ≡ nodes_in (trees_in l.members))
-    × (AtEachNodeIn HasShortList (trees_in (drop l.member-index l.members)) → AtEachNodeIn HasShortList (trees_in l.members))
+    × (AtEachNodeIn HasShortList (trees_in (drop l.member-index l.members)) → AtEachNodeIn HasShortList
+    (trees_in l.members))

@@ -7,4 +7,5 @@ use Rattle.halo_status.proofs.status.+lasting.Given as goal
 
 abbrev pub invariant-are_lasting-loop-member : goal.invariant-are_lasting-loop-member
 invariant-are_lasting-loop-member l =
-    AtEachNodeIn NeverReturns (trees_in (drop l.member-index l.members)) ↔ AtEachNodeIn NeverReturns (trees_in l.members)
+    AtEachNodeIn NeverReturns (trees_in (drop l.member-index l.members)) ↔ AtEachNodeIn NeverReturns
+    (trees_in l.members)

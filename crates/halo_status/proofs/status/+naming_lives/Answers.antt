@@ -23,15 +23,20 @@ Status::lives-lives_of-requires t c =
 
 pub Status::lives-returns-in-Life : goal.Status::lives-returns-in-Life
 Status::lives-returns-in-Life t c =
-    λ i. rw (c.in-Life.is, tree_of-Life) (has_bit-shl _ i (c.requires _ (rw (c.in-Life.is, tree_of-Life) (eq-eqb _ _ refl))))
+    λ i. rw (c.in-Life.is, tree_of-Life) (has_bit-shl _ i
+    (c.requires _ (rw (c.in-Life.is, tree_of-Life) (eq-eqb _ _ refl))))
 
 pub Status::lives-returns-in-After : goal.Status::lives-returns-in-After
 Status::lives-returns-in-After t c =
-    both_lives _ _ _ _ _ c.in-After.is (rw c.deref.ensures at c.lives.ensures) (rw c.deref-in-After.ensures at c.lives-in-After.ensures)
+    both_lives _ _ _ _ _ c.in-After.is (rw c.deref.ensures at c.lives.ensures)
+    (rw c.deref-in-After.ensures at c.lives-in-After.ensures)
 
 pub lives_of-lives-lives-requires : goal.lives_of-lives-lives-requires
-lives_of-lives-lives-requires t c =
-    (search (rules, the_lemmas), names_below_member _ _ _ _ c.loop-member-test.true c.member-item.is c.loop-member.invariant _ c.requires)
+lives_of-lives-lives-requires t c = (
+  search (rules, the_lemmas),
+  names_below_member _ _ _ _ c.loop-member-test.true c.member-item.is
+      c.loop-member.invariant _ c.requires,
+)
 
 pub lives_of-loop-member-preserved : goal.lives_of-loop-member-preserved
 lives_of-loop-member-preserved t c =

@@ -7,4 +7,6 @@ use Rattle.halo_status.proofs.status.+naming_lives.Given as goal
 
 abbrev pub invariant-lives_of-loop-member : goal.invariant-lives_of-loop-member
 invariant-lives_of-loop-member l =
-    (i : ℕ) → (has_bit l.lives i || any_names_life i (trees_in (drop l.member-index l.members))) ≡ any_names_life i (trees_in l.members)
+    (i : ℕ)
+    → (has_bit l.lives i || any_names_life i (trees_in (drop l.member-index l.members)))
+    ≡ any_names_life i (trees_in l.members)

@@ -35,7 +35,8 @@ group-returns-in_err-body-clause-syntax t c failed =
 pub group-returns-in_err-expect-clause-syntax : goal.group-returns-in_err-expect-clause-syntax
 group-returns-in_err-expect-clause-syntax t c failed =
     no_group _ _ (λ body rest deep e.
-    c.in_err-expect.ensures.1 rest (body_unique _ body _ _ c.in_ok-body.ensures.ends (closes body rest) (sym c.in_ok-body.ensures.ok ∙ e)).1)
+    c.in_err-expect.ensures.1 rest (body_unique _ body _ _ c.in_ok-body.ensures.ends (closes body rest)
+        (sym c.in_ok-body.ensures.ok ∙ e)).1)
 
 pub body-returns-in_err-first-clause-syntax : goal.body-returns-in_err-first-clause-syntax
 body-returns-in_err-first-clause-syntax t c failed =
@@ -68,52 +69,66 @@ node-returns-in-Some-Byte-clause-syntax t c failed =
     let first : c.args.reader.now ≡ byte c.in-Some-Byte.field-0-0 ∷ c.next.new.self = grind arith in
     no_other _ _ _ _ first test.0.0.1 test.0.1 test.1
 
-pub node-returns-in_err-bracketed-in-Some-Bar-clause-syntax : goal.node-returns-in_err-bracketed-in-Some-Bar-clause-syntax
+pub node-returns-in_err-bracketed-in-Some-Bar-clause-syntax :
+    goal.node-returns-in_err-bracketed-in-Some-Bar-clause-syntax
 node-returns-in_err-bracketed-in-Some-Bar-clause-syntax t c failed =
     let first : c.args.reader.now ≡ bar ∷ c.next.new.self = grind arith in
     let none : NoBracketed c.args.depth c.next.new.self = grind arith in
     no_last _ _ _ first none
 
-pub node-returns-in_err-expect-in-Some-Number-clause-syntax : goal.node-returns-in_err-expect-in-Some-Number-clause-syntax
+pub node-returns-in_err-expect-in-Some-Number-clause-syntax :
+    goal.node-returns-in_err-expect-in-Some-Number-clause-syntax
 node-returns-in_err-expect-in-Some-Number-clause-syntax t c failed =
     let first : c.args.reader.now ≡ number c.in-Some-Number.rank.now ∷ c.next.new.self = grind arith in
     no_at_least _ _ _ _ first (λ vs e. absurd (c.in_err-expect-in-Some-Number.ensures.1 vs e))
 
-pub node-returns-in_err-bracketed-in-Some-Number-clause-syntax : goal.node-returns-in_err-bracketed-in-Some-Number-clause-syntax
+pub node-returns-in_err-bracketed-in-Some-Number-clause-syntax :
+    goal.node-returns-in_err-bracketed-in-Some-Number-clause-syntax
 node-returns-in_err-bracketed-in-Some-Number-clause-syntax t c failed =
     let first : c.args.reader.now ≡ number c.in-Some-Number.rank.now ∷ c.next.new.self = grind arith in
     let none : NoBracketed c.args.depth c.expect.new.self = grind arith in
-    no_at_least _ _ _ _ first (λ vs e. subst (NoBracketed c.args.depth) (behind (sym c.in_ok-expect-in-Some-Number.ensures ∙ e)) none)
+    no_at_least _ _ _ _ first (λ vs e. subst (NoBracketed c.args.depth)
+        (behind (sym c.in_ok-expect-in-Some-Number.ensures ∙ e)) none)
 
-pub node-returns-in_err-years-in-Some-Byte-eq60-clause-syntax : goal.node-returns-in_err-years-in-Some-Byte-eq60-clause-syntax
+pub node-returns-in_err-years-in-Some-Byte-eq60-clause-syntax :
+    goal.node-returns-in_err-years-in-Some-Byte-eq60-clause-syntax
 node-returns-in_err-years-in-Some-Byte-eq60-clause-syntax t c failed =
     let first : c.args.reader.now ≡ byte angle_open ∷ c.next.new.self = grind arith in
     no_term _ _ _ first (λ x vs e. c.in_err-years-in-Some-Byte-eq60.ensures.1 _ _ e)
 
-pub node-returns-in_err-expect-in-Some-Byte-eq60-clause-syntax : goal.node-returns-in_err-expect-in-Some-Byte-eq60-clause-syntax
+pub node-returns-in_err-expect-in-Some-Byte-eq60-clause-syntax :
+    goal.node-returns-in_err-expect-in-Some-Byte-eq60-clause-syntax
 node-returns-in_err-expect-in-Some-Byte-eq60-clause-syntax t c failed =
     let first : c.args.reader.now ≡ byte angle_open ∷ c.next.new.self = grind arith in
-    no_term _ _ _ first (λ x vs e. c.in_err-expect-in-Some-Byte-eq60.ensures.1 _ (behind (sym c.in_ok-years-in-Some-Byte-eq60.ensures ∙ e)))
+    no_term _ _ _ first (λ x vs e. c.in_err-expect-in-Some-Byte-eq60.ensures.1 _
+        (behind (sym c.in_ok-years-in-Some-Byte-eq60.ensures ∙ e)))
 
-pub node-returns-in_err-rank-in-Some-Byte-eq91-clause-syntax : goal.node-returns-in_err-rank-in-Some-Byte-eq91-clause-syntax
+pub node-returns-in_err-rank-in-Some-Byte-eq91-clause-syntax :
+    goal.node-returns-in_err-rank-in-Some-Byte-eq91-clause-syntax
 node-returns-in_err-rank-in-Some-Byte-eq91-clause-syntax t c failed =
     let first : c.args.reader.now ≡ byte square_open ∷ c.next.new.self = grind arith in
     no_exactly _ _ _ first (λ x vs e. absurd (c.in_err-rank-in-Some-Byte-eq91.ensures.1 _ _ e))
 
-pub node-returns-in_err-expect-in-Some-Byte-eq91-clause-syntax : goal.node-returns-in_err-expect-in-Some-Byte-eq91-clause-syntax
+pub node-returns-in_err-expect-in-Some-Byte-eq91-clause-syntax :
+    goal.node-returns-in_err-expect-in-Some-Byte-eq91-clause-syntax
 node-returns-in_err-expect-in-Some-Byte-eq91-clause-syntax t c failed =
     let first : c.args.reader.now ≡ byte square_open ∷ c.next.new.self = grind arith in
-    no_exactly _ _ _ first (λ x vs e. absurd (c.in_err-expect-in-Some-Byte-eq91.ensures.1 _ (behind (sym c.in_ok-rank-in-Some-Byte-eq91.ensures ∙ e))))
+    no_exactly _ _ _ first (λ x vs e. absurd (c.in_err-expect-in-Some-Byte-eq91.ensures.1 _
+        (behind (sym c.in_ok-rank-in-Some-Byte-eq91.ensures ∙ e))))
 
-pub node-returns-in_err-expect-in-Some-Byte-eq91-2-clause-syntax : goal.node-returns-in_err-expect-in-Some-Byte-eq91-2-clause-syntax
+pub node-returns-in_err-expect-in-Some-Byte-eq91-2-clause-syntax :
+    goal.node-returns-in_err-expect-in-Some-Byte-eq91-2-clause-syntax
 node-returns-in_err-expect-in-Some-Byte-eq91-2-clause-syntax t c failed =
     let first : c.args.reader.now ≡ byte square_open ∷ c.next.new.self = grind arith in
     no_exactly _ _ _ first (λ x vs e. absurd (c.in_err-expect-in-Some-Byte-eq91-2.ensures.1 _
     (behind (sym c.in_ok-expect-in-Some-Byte-eq91.ensures ∙ behind (sym c.in_ok-rank-in-Some-Byte-eq91.ensures ∙ e)))))
 
-pub node-returns-in_err-bracketed-in-Some-Byte-eq91-clause-syntax : goal.node-returns-in_err-bracketed-in-Some-Byte-eq91-clause-syntax
+pub node-returns-in_err-bracketed-in-Some-Byte-eq91-clause-syntax :
+    goal.node-returns-in_err-bracketed-in-Some-Byte-eq91-clause-syntax
 node-returns-in_err-bracketed-in-Some-Byte-eq91-clause-syntax t c failed =
     let first : c.args.reader.now ≡ byte square_open ∷ c.next.new.self = grind arith in
     let none : NoBracketed c.args.depth c.expect-in-Some-Byte-eq91-2.new.self = grind arith in
     no_exactly _ _ _ first (λ x vs e. subst (NoBracketed c.args.depth)
-    (behind (sym c.in_ok-expect-in-Some-Byte-eq91-2.ensures ∙ behind (sym c.in_ok-expect-in-Some-Byte-eq91.ensures ∙ behind (sym c.in_ok-rank-in-Some-Byte-eq91.ensures ∙ e)))) none)
+    (behind (sym c.in_ok-expect-in-Some-Byte-eq91-2.ensures
+        ∙ behind (sym c.in_ok-expect-in-Some-Byte-eq91.ensures
+            ∙ behind (sym c.in_ok-rank-in-Some-Byte-eq91.ensures ∙ e)))) none)

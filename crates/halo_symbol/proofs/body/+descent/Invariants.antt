@@ -24,7 +24,8 @@ decreases-body l = 5 * l.depth + 4
 
 abbrev pub invariant-more_members-loop-alloc : goal.invariant-more_members-loop-alloc
 invariant-more_members-loop-alloc l = record {
-  read : members_pieces (plain_members l.initial.members) l.initial.reader ≡ members_pieces (plain_members l.members) l.reader;
+  read : members_pieces (plain_members l.initial.members) l.initial.reader
+      ≡ members_pieces (plain_members l.members) l.reader;
   deep : nest_members (plain_members l.members) ≤ l.depth;
 }
 

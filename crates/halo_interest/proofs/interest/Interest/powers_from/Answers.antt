@@ -25,8 +25,10 @@ loop-t-preserved g c =
     in let t = c.loop-t.t
     in let p = c.loop-t.invariant.power
     in let y = c.year.ensures
-    in let year : EnclosesChance (n (s + t)) (d (s + t)) 1 c.year.result = record { encloses = y.encloses; narrow = y.narrow; within = y.within }
-    in let next : IsPower n d s (t + 1) c.mul-power.result = power_more n d s t c.mul-power.result (c.mul-power.ensures.chance _ _ _ _ (3 * t) 1 p year)
+    in let year : EnclosesChance (n (s + t)) (d (s + t)) 1 c.year.result =
+    record { encloses = y.encloses; narrow = y.narrow; within = y.within }
+    in let next : IsPower n d s (t + 1) c.mul-power.result =
+    power_more n d s t c.mul-power.result (c.mul-power.ensures.chance _ _ _ _ (3 * t) 1 p year)
     in record {
       powers = more_powers n d s t c.loop-t.values c.mul-power.result c.loop-t.invariant.powers (omega arith) next;
       power = next;

@@ -13,7 +13,9 @@ invariant_of-result g c =
     in let ah = ap (λ (v : Ends). v.hi) c.self.view_is
     in let bl = ap (λ (v : Ends). v.lo) c.o.view_is
     in let bh = ap (λ (v : Ends). v.hi) c.o.view_is
-    in ordered _ _ (c.args.self.lo *ℤ c.args.o.lo) (c.args.self.hi *ℤ c.args.o.hi) fine (lit< tt) (search rules) (search rules) (mul_le_mul c.args.self.lo c.args.o.lo c.args.self.hi c.args.o.hi c.requires.self_from c.requires.o_from (omega (arith, ints)) (omega (arith, ints)))
+    in ordered _ _ (c.args.self.lo *ℤ c.args.o.lo) (c.args.self.hi *ℤ c.args.o.hi) fine (lit< tt) (search rules)
+    (search rules) (mul_le_mul c.args.self.lo c.args.o.lo c.args.self.hi c.args.o.hi c.requires.self_from
+    c.requires.o_from (omega (arith, ints)) (omega (arith, ints)))
 
 pub returns-clause-encloses : goal.returns-clause-encloses
 returns-clause-encloses g c = λ n m d e p q.
@@ -21,7 +23,8 @@ returns-clause-encloses g c = λ n m d e p q.
     in let ah = ap (λ (v : Ends). v.hi) c.self.view_is
     in let bl = ap (λ (v : Ends). v.lo) c.o.view_is
     in let bh = ap (λ (v : Ends). v.hi) c.o.view_is
-    in encloses_mul c.args.self c.args.o _ n m d e c.requires.self_from c.requires.o_from (omega (arith, ints)) (omega (arith, ints)) (search rules) (search rules) (search rules) (search rules) p q
+    in encloses_mul c.args.self c.args.o _ n m d e c.requires.self_from c.requires.o_from (omega (arith, ints))
+    (omega (arith, ints)) (search rules) (search rules) (search rules) (search rules) p q
 
 pub returns-clause-bound : goal.returns-clause-bound
 returns-clause-bound g c = λ a b x y.
@@ -29,7 +32,8 @@ returns-clause-bound g c = λ a b x y.
     in let ah = ap (λ (v : Ends). v.hi) c.self.view_is
     in let bl = ap (λ (v : Ends). v.lo) c.o.view_is
     in let bh = ap (λ (v : Ends). v.hi) c.o.view_is
-    in bounded_mul _ c.args.self.hi c.args.o.hi a b (search rules) (omega (arith, ints)) (omega (arith, ints)) x y (search rules)
+    in bounded_mul _ c.args.self.hi c.args.o.hi a b (search rules) (omega (arith, ints)) (omega (arith, ints)) x y
+    (search rules)
 
 pub returns-clause-within : goal.returns-clause-within
 returns-clause-within g c = λ x y. record { low = search rules; high = returns-clause-bound g c 1 1 x y }
@@ -40,7 +44,11 @@ returns-clause-width g c = λ v w a b x y p q.
     in let ah = ap (λ (v : Ends). v.hi) c.self.view_is
     in let bl = ap (λ (v : Ends). v.lo) c.o.view_is
     in let bh = ap (λ (v : Ends). v.hi) c.o.view_is
-    in record { near = width_mul _ _ c.args.self.lo c.args.self.hi c.args.o.lo c.args.o.hi v w a b (search rules) (search rules) c.requires.self_from c.requires.o_from (omega (arith, ints)) (omega (arith, ints)) x y (search rules) (search rules) p.near q.near }
+    in record {
+      near = width_mul _ _ c.args.self.lo c.args.self.hi c.args.o.lo c.args.o.hi v w a b (search rules)
+          (search rules) c.requires.self_from c.requires.o_from (omega (arith, ints)) (omega (arith, ints)) x y
+          (search rules) (search rules) p.near q.near;
+    }
 
 pub returns-clause-narrow : goal.returns-clause-narrow
 returns-clause-narrow g c = λ v w x y p q.
