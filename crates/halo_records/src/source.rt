@@ -1,6 +1,6 @@
 // A source of records.
-ghost use Rattle.std.specs.Prelude.{◌≡◌, ◌≤◌, length, [], ◌∷◌, IfOk, OnErr, true, false};
-ghost use Rattle.csv.specs.Reading.{strip_bom};
+ghost use Rattle.std.specs.Prelude.{◌≡◌, ◌≤◌, length, [], ◌∷◌, IfOk, OnOk, OnErr, true, false};
+ghost use Rattle.csv.specs.Reading.{ChangesHeaders, Ready, names_headers, strip_bom};
 ghost use Rattle.csv.specs.Records.{fields_of};
 ghost use Rattle.halo_records.specs.Left.{IsGoing, IsReadError, left_of};
 ghost use Rattle.halo_records.specs.Records.{records_of};
@@ -44,6 +44,18 @@ fn without_mark(bytes: &[u8]) -> &[u8]
     }
 }
 
+// Gives a reader an empty header before it reads. Without one `csv` keeps two copies of record 1,
+// which may be as long as the file.
+fn set_no_header(alloc: Global, reader: &mut Reader<&[u8]>) -> Result<(), Memory>
+    requires { names_headers reader.old ≡ true }
+    ensures headers { OnOk result (Ready reader.new) }
+    ensures rest { OnOk result (ChangesHeaders reader.old reader.new) }
+{
+    reader
+        .set_byte_headers(ByteRecord::new(alloc))
+        .map_err(|_| Memory)
+}
+
 // Reads the next record of a reader that stands between two.
 fn advance(reader: &mut Reader<&[u8]>, row: &mut ByteRecord) -> Result<bool, Memory>
     requires { IsGoing reader.old }
@@ -73,20 +85,20 @@ fn only_memory(kind: &ErrorKind)
 
 impl<'a> Records<'a> {
     /// All the records of a file. Each takes at least one byte, so there are no more records
-    /// than bytes. Nothing is read yet, and it takes no memory.
+    /// than bytes. Nothing is read yet. An error is want of memory.
     #[tactic(auto, using(crate::proofs::Fuel::few_records))]
-    pub fn new(alloc: Global, bytes: &'a [u8]) -> Records<'a>
-        ensures all { result ≡ records_of bytes.now }
-        ensures few { length result ≤ length bytes.now }
+    pub fn new(alloc: Global, bytes: &'a [u8]) -> Result<Records<'a>, Memory>
+        ensures all { IfOk result (λ records. records ≡ records_of bytes.now) }
+        ensures few { IfOk result (λ records. length records ≤ length bytes.now) }
     {
-        let reader = ReaderBuilder::new()
-            .has_headers(false)
+        let mut reader = ReaderBuilder::new()
             .flexible(true)
             .from_reader(alloc, without_mark(bytes));
-        Records {
+        set_no_header(alloc, &mut reader)?;
+        Ok(Records {
             reader,
             done: false,
-        }
+        })
     }
 
     /// Reads the next record into `row` and answers true, or false where none is left. After

@@ -5,7 +5,9 @@ use std::rt::HostRuntime;
 
 // How many records there are, and how many fields they have together.
 fn counts(rt: &HostRuntime, bytes: &[u8]) -> Option<(usize, usize)> {
-    let mut records = Records::new(rt.alloc(), bytes);
+    let Ok(mut records) = Records::new(rt.alloc(), bytes) else {
+        return None;
+    };
     let mut record = ByteRecord::new(rt.alloc());
     let mut rows = 0;
     let mut fields = 0;

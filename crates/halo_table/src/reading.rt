@@ -216,7 +216,9 @@ pub fn read_all(alloc: Global, bytes: &[u8]) -> Result<Tables, TablesError>
     requires { length bytes.now ≤ 16777216 }
     ensures { ReadsTables (records_of bytes.now) result }
 {
-    let mut source = Records::new(alloc, bytes);
+    let Ok(mut source) = Records::new(alloc, bytes) else {
+        return Err(TablesError::Memory);
+    };
     let header = read_header(alloc, &mut source)?;
     let Ok(causes) = read_causes(alloc, &header) else {
         return Err(TablesError::Memory);
