@@ -1,13 +1,13 @@
 // The records of a tables file and their fields.
-ghost use Rattle.std.specs.Prelude.{◌≡◌, ◌↔◌, IfOk, IsTrue, ℕ, ◌≤◌, ◌<◌, length};
+ghost use Rattle.std.specs.Prelude.{◌≡◌, ◌≢◌, ◌↔◌, AllPairs, IfOk, IsTrue, ℕ, ◌≤◌, ◌<◌, drop, length, map};
 ghost use Rattle.csv.specs.Records.{fields_of};
+ghost use Rattle.halo_text.specs.Name.{IsName};
 ghost use Rattle.halo_text.specs.Number.{ReadsNumber};
 ghost use Rattle.halo_table.specs.Record.{IsHeader, IsNewCause, field, greatest_at};
 
 use csv::ByteRecord;
 use halo_text::{NumberFault, is_name, number_up_to};
 use std::alloc::{AllocError, Global};
-use std::collections::BTreeSet;
 
 /// The place of a table's name in a row.
 pub const NAME: usize = 0;
@@ -49,24 +49,57 @@ pub fn number_at(fields: &ByteRecord, place: usize) -> Result<u64, NumberFault>
     number_up_to(cell(fields, place), limit)
 }
 
-// Whether the causes of record 1 are names, no two of them equal. The earlier ones are kept in
-// order, since a file may name millions of causes, too many to compare each with each.
+// Whether the causes of record 1 are names.
+fn are_names(fields: &ByteRecord) -> bool
+    ensures { IsTrue result ↔ ((j : ℕ) → 3 ≤ j → j < length (fields_of fields.now)
+        → IsName (field (fields_of fields.now) j)) }
+{
+    for place in FIRST_CAUSE..fields.len() {
+        if !is_name(cell(fields, place)) {
+            return false;
+        }
+    }
+    true
+}
+
+// The causes of record 1.
+fn causes_of(alloc: Global, fields: &ByteRecord) -> Result<Vec<&[u8]>, AllocError>
+    requires { 3 ≤ length (fields_of fields.now) }
+    ensures { IfOk result (λ causes. map (λ cause. cause.now) causes.items
+        ≡ drop 3 (fields_of fields.now)) }
+{
+    let mut causes = Vec::with_capacity(alloc, fields.len() - FIRST_CAUSE)?;
+    for place in FIRST_CAUSE..fields.len() {
+        causes.push(cell(fields, place))?;
+    }
+    Ok(causes)
+}
+
+// Whether no two texts are equal. They are put in order, since a file may name millions of
+// causes, too many to compare each with each.
+fn are_apart(mut texts: Vec<&[u8]>) -> bool
+    ensures { IsTrue result ↔ AllPairs (λ x y. x.now ≢ y.now) texts.entry.items }
+{
+    texts.sort_unstable();
+    for place in 1..texts.len() {
+        if texts[place - 1] == texts[place] {
+            return false;
+        }
+    }
+    true
+}
+
+// Whether the causes of record 1 are names, no two of them equal.
 fn are_new_causes(alloc: Global, fields: &ByteRecord) -> Result<bool, AllocError>
+    requires { 3 ≤ length (fields_of fields.now) }
     ensures { IfOk result (λ answer. IsTrue answer ↔ ((j : ℕ) → 3 ≤ j
         → j < length (fields_of fields.now) → IsNewCause (fields_of fields.now) j)) }
 {
-    let mut earlier = BTreeSet::new(alloc);
-    for place in FIRST_CAUSE..fields.len() {
-        let cause = cell(fields, place);
-        if !is_name(cause) {
-            return Ok(false);
-        }
-        let is_new = earlier.insert(cause)?;
-        if !is_new {
-            return Ok(false);
-        }
+    if !are_names(fields) {
+        return Ok(false);
     }
-    Ok(true)
+    let causes = causes_of(alloc, fields)?;
+    Ok(are_apart(causes))
 }
 
 /// Whether this can be record 1: `table`, `age`, `l` and one or more different names. It takes
