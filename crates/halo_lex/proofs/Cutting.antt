@@ -30,9 +30,9 @@ next_reads word place token next =
     let some = next.some in
     let split = take-append-drop (token.to - token.from) (drop token.from word) in
     let behind : drop (token.to - token.from) (drop token.from word) ≡ drop token.to word =
-        drop-drop (token.to - token.from) token.from word ∙ ap (λ n. drop n word) (omega arith) in
+    drop-drop (token.to - token.from) token.from word ∙ ap (λ n. drop n word) (omega arith) in
     ap (λ n. drop n word) (sym from) ∙ sym split ∙ ap₂ (λ (xs ys : List ℕ). xs ++ ys) (sym next.part) behind
-        ∙ sym (text_before-append (lexeme_of word token) [] (drop token.to word))
+    ∙ sym (text_before-append (lexeme_of word token) [] (drop token.to word))
 
 -- the texts of lexemes and of one more
 texts_before-push : (lexemes : List Lexeme) (lexeme : Lexeme) (rest : List ℕ)
@@ -44,9 +44,12 @@ texts_before-push (first ∷ lexemes) lexeme rest = ap (text_before first) (text
 lexemes_push : (lexemes : List Lexeme) (lexeme : Lexeme) (rest : List ℕ) → IsLexeme lexeme → Follows lexeme rest
     → AreLexemesBefore lexemes (text_before lexeme rest) → AreLexemesBefore (lexemes ++ lexeme ∷ []) rest
 lexemes_push [] lexeme rest is follows before = (is, follows, tt)
-lexemes_push (first ∷ lexemes) lexeme rest is follows before =
-    (before.0, subst (Follows first) (sym (texts_before-push lexemes lexeme rest)) before.1, lexemes_push lexemes lexeme
-        rest is follows before.2)
+lexemes_push (first ∷ lexemes) lexeme rest is follows before = (
+  before.0,
+  subst (Follows first) (sym (texts_before-push lexemes lexeme rest)) before.1,
+  lexemes_push lexemes lexeme
+      rest is follows before.2,
+)
 
 -- tokens without gap, and one more behind them
 tile_push : (from : ℕ) (tokens : List Token) (token : Token) → Tile from tokens token.from → token.from < token.to
@@ -82,10 +85,10 @@ cuts_more word tokens place token cuts next =
       parts = All-push (HasItsText word) tokens token cuts.parts next.part;
       lexemes =
           rw more (lexemes_push before (lexeme_of word token) (drop token.to word) next.lexeme next.follows
-              (rw step at cuts.lexemes));
+          (rw step at cuts.lexemes));
       reads =
           rw more (texts_before-push before (lexeme_of word token) (drop token.to word)
-              ∙ sym (ap (texts_before before) step) ∙ cuts.reads);
+          ∙ sym (ap (texts_before before) step) ∙ cuts.reads);
     }
 
 -- tokens up to the end of a word are those of the word
@@ -95,8 +98,11 @@ cuts_all word tokens place le cuts =
     let within = cuts.within in
     let same : place ≡ length word = omega arith in
     let none = drop_all place word le in
-    record { tile = rw same at cuts.tile; parts = cuts.parts;
-        lexemes = record { each = rw none at cuts.lexemes; whole = rw none at cuts.reads } }
+    record {
+      tile = rw same at cuts.tile;
+      parts = cuts.parts;
+      lexemes = record { each = rw none at cuts.lexemes; whole = rw none at cuts.reads };
+    }
 
 -- a word whose byte at a place begins no lexeme is stuck there, where tokens stand before
 pub cuts_stuck : (word : List ℕ) (tokens : List Token) (place : ℕ) → place < length word → CutsUpTo word tokens place
@@ -124,7 +130,7 @@ cut_on (suc left) word tokens place le cuts = elim (cases_lt place (length word)
     | inl next ↦
         let some = next.1.some in
         cut_on left word (tokens ++ next.0 ∷ []) next.0.to (omega arith)
-            (cuts_more word tokens place next.0 cuts next.1)
+        (cuts_more word tokens place next.0 cuts next.1)
     | inr none ↦ inr (place, cuts_stuck word tokens place lt cuts none)
   ]
   | inr end ↦ inl (tokens, cuts_all word tokens place end cuts)

@@ -66,7 +66,7 @@ among test b [] any all = absurd cc
 among test b (c ∷ bytes) any all =
     let both = and_parts (test c) (list_all test bytes) all in
     elim (or_cases (c == b) (list_any (λ d. d == b) bytes) any)
-        [ inl same ↦ rw (eqb-true c b same) at both.0 | inr more ↦ among test b bytes more both.1 ]
+    [ inl same ↦ rw (eqb-true c b same) at both.0 | inr more ↦ among test b bytes more both.1 ]
 
 -- a letter is no digit
 letter_no_digit : (b : ℕ) → is_ascii_alphabetic b ≡ true → IsDigit b → ⊥
@@ -77,14 +77,14 @@ letter_no_symbol : (b : ℕ) → is_ascii_alphabetic b ≡ true → is_symbol_by
 unfolding is_symbol_byte
 letter_no_symbol b letter symbol =
     both_ways (is_ascii_alphabetic b) (not-true (is_ascii_alphabetic b)
-        (among (λ c. not (is_ascii_alphabetic c)) b symbol_bytes symbol refl)) letter
+    (among (λ c. not (is_ascii_alphabetic c)) b symbol_bytes symbol refl)) letter
 
 -- a digit is no byte that stands by itself
 digit_no_symbol : (b : ℕ) → IsDigit b → is_symbol_byte b ≡ true → ⊥
 unfolding is_symbol_byte
 digit_no_symbol b digit symbol =
     both_ways (is_ascii_digit b) (not-true (is_ascii_digit b)
-        (among (λ c. not (is_ascii_digit c)) b symbol_bytes symbol refl)) (grind (arith, nat_tests))
+    (among (λ c. not (is_ascii_digit c)) b symbol_bytes symbol refl)) (grind (arith, nat_tests))
 
 -- two lexemes that begin the same bytes begin with the same byte
 begin_alike : (lexeme other : Lexeme) (r s : List ℕ) → IsLexeme lexeme → IsLexeme other
@@ -159,8 +159,8 @@ told_by_texts lexemes others a b e = (lexemes_one lexemes others [] [] a b none_
 pub stuck_one : (word : List ℕ) (place other : ℕ) → IsStuckAt word place → IsStuckAt word other → place ≡ other
 stuck_one word place other s t =
     let same =
-        lexemes_one s.before t.before (s.first ∷ s.rest) (t.first ∷ t.rest) s.lexemes t.lexemes
-            (none_at s.first s.rest s.none) (none_at t.first t.rest t.none) (sym s.reads ∙ t.reads) in
+    lexemes_one s.before t.before (s.first ∷ s.rest) (t.first ∷ t.rest) s.lexemes t.lexemes
+    (none_at s.first s.rest s.none) (none_at t.first t.rest t.none) (sym s.reads ∙ t.reads) in
     s.at ∙ ap (λ x. length (texts x)) same.0 ∙ sym t.at
 
 -- a word that has lexemes is stuck nowhere
@@ -168,8 +168,8 @@ pub cut_not_stuck : (word : List ℕ) (lexemes : List Lexeme) (place : ℕ) → 
     → IsStuckAt word place → ⊥
 cut_not_stuck word lexemes place cut s =
     let same =
-        lexemes_one lexemes s.before [] (s.first ∷ s.rest) cut.each s.lexemes none_at_end
-            (none_at s.first s.rest s.none) (cut.whole ∙ s.reads) in
+    lexemes_one lexemes s.before [] (s.first ∷ s.rest) cut.each s.lexemes none_at_end
+    (none_at s.first s.rest s.none) (cut.whole ∙ s.reads) in
     nil_is_no_cons same.1
 
 -- a name is a name of any length that has at most 32 bytes
@@ -177,6 +177,10 @@ pub short_name : (text : List ℕ) → IsName text ↔ (IsLongName text × (leng
 short_name [] = ((λ named. let some = named.some in absurd (omega arith)), (λ both. absurd both.0))
 short_name (first ∷ rest) = (
   (λ named. ((named.letter, All-tail (λ b. is_name_byte b ≡ true) first rest named.bytes), named.short)),
-  (λ both. record { some = omega arith; short = both.1; letter = both.0.0;
-      bytes = long_name_all (first ∷ rest) both.0 }),
+  (λ both. record {
+    some = omega arith;
+    short = both.1;
+    letter = both.0.0;
+    bytes = long_name_all (first ∷ rest) both.0;
+  }),
 )

@@ -39,8 +39,11 @@ name_next word from to lt letter run =
       within = run.within;
       part = append-nil (slice_range word from to);
       lexeme =
-          subst IsLongName (sym parts) (letter, All-tail (λ b. is_name_byte b ≡ true) (get_or word from 0)
-              (slice_range word (from + 1) to) (rw parts at all));
+          subst IsLongName (sym parts) (
+            letter,
+            All-tail (λ b. is_name_byte b ≡ true) (get_or word from 0)
+                (slice_range word (from + 1) to) (rw parts at all),
+          );
       follows = run_stops is_name_byte word from to run;
     }
 
@@ -91,11 +94,13 @@ next_or_none word place lt = elim (cases_Bool (is_ascii_alphabetic (get_or word 
     | inr no_digit ↦ elim (cases_Bool (is_symbol_byte (get_or word place 0))) [
       | inl symbol ↦ inl (_, byte_next word place lt symbol)
       | inr no_symbol ↦
-          inr (record { letter = no_letter;
-              digit =
-                  λ d. both_ways (is_ascii_digit (get_or word place 0)) no_digit (digit_passes (get_or word place 0) d);
-                      symbol =
-                      no_symbol })
+          inr (record {
+            letter = no_letter;
+            digit =
+                λ d. both_ways (is_ascii_digit (get_or word place 0)) no_digit (digit_passes (get_or word place 0) d);
+            symbol =
+                no_symbol;
+          })
     ]
   ]
 ]

@@ -22,22 +22,31 @@ pub one_end : (test : ℕ → Bool) (bytes : List ℕ) (from to end : ℕ) → I
 one_end test bytes from to end r s = elim (cases_order to end) [
   | inl e ↦ e
   | inr h ↦
-      elim h [ inl lt ↦ absurd (no_earlier test bytes from to end r s lt) | inr lt ↦ absurd
-          (no_earlier test bytes from end to s r lt) ]
+      elim h [
+        | inl lt ↦ absurd (no_earlier test bytes from to end r s lt)
+        | inr lt ↦ absurd
+            (no_earlier test bytes from end to s r lt)
+      ]
 ]
 
 -- there is a run from each place on
 pub some_run : (test : ℕ → Bool) (bytes : List ℕ) (from : ℕ) → from ≤ length bytes → (to : ℕ) × IsRun test bytes from to
-some_run test bytes from within =
-    (from + prefix_len test (drop from bytes), record { forth = omega arith;
-        within =
-            omega (arith, prefix_len-le-length test (drop from bytes), length-drop from bytes); pass =
-                pass; stops = stops })
+some_run test bytes from within = (
+  from + prefix_len test (drop from bytes),
+  record {
+    forth = omega arith;
+    within =
+        omega (arith, prefix_len-le-length test (drop from bytes), length-drop from bytes);
+    pass =
+        pass;
+    stops = stops;
+  },
+)
   where
     pass : (k d : ℕ) → from ≤ k → k < from + prefix_len test (drop from bytes) → test (get_or bytes k d) ≡ true
     pass k d low high =
         let at : get_or (drop from bytes) (k - from) d ≡ get_or bytes k d =
-            get_or-drop from bytes (k - from) d ∙ ap (λ n. get_or bytes n d) (omega arith) in
+        get_or-drop from bytes (k - from) d ∙ ap (λ n. get_or bytes n d) (omega arith) in
         rw at at (prefix_len_passes test (drop from bytes) (k - from) d (omega arith))
 
     stops : from + prefix_len test (drop from bytes) < length bytes

@@ -28,7 +28,7 @@ pub tile_within : (from : ℕ) (tokens : List Token) (to : ℕ) → Tile from to
 tile_within from [] to tile = All-nil (EndsBy to)
 tile_within from (token ∷ tokens) to tile =
     All-cons (EndsBy to) token tokens (tile.1, tile_forth token.to tokens to tile.2)
-        (tile_within token.to tokens to tile.2)
+    (tile_within token.to tokens to tile.2)
 
 -- the kind of a token is told by its lexeme
 kind_one : (k other : TokenKind) (text more : List ℕ) → lexeme_with k text ≡ lexeme_with other more → k ≡ other
@@ -70,17 +70,17 @@ tokens_one word from [] (other ∷ others) s t a b e = absurd cc
 tokens_one word from (token ∷ tokens) [] s t a b e = absurd cc
 tokens_one word from (token ∷ tokens) (other ∷ others) s t a b e =
     let lexemes : (lexeme_of word token ≡ lexeme_of word other)
-        × (map (lexeme_of word) tokens ≡ map (lexeme_of word) others) =
-        (cc, cc) in
+    × (map (lexeme_of word) tokens ≡ map (lexeme_of word) others) =
+    (cc, cc) in
     let ends = All-head (EndsBy (length word)) token tokens (tile_within from (token ∷ tokens) (length word) s) in
     let other_ends = All-head (EndsBy (length word)) other others (tile_within from (other ∷ others) (length word) t) in
     let first =
-        next_one word token other (s.0 ∙ sym t.0) ends other_ends (All-head (HasItsText word) token tokens a)
-            (All-head (HasItsText word) other others b) lexemes.0 in
+    next_one word token other (s.0 ∙ sym t.0) ends other_ends (All-head (HasItsText word) token tokens a)
+    (All-head (HasItsText word) other others b) lexemes.0 in
     let to = ap (λ (x : Token). x.to) first in
     let rest =
-        tokens_one word other.to tokens others (rw to at s.2) t.2 (All-tail (HasItsText word) token tokens a)
-            (All-tail (HasItsText word) other others b) lexemes.1 in
+    tokens_one word other.to tokens others (rw to at s.2) t.2 (All-tail (HasItsText word) token tokens a)
+    (All-tail (HasItsText word) other others b) lexemes.1 in
     ap₂ (λ (x : Token) (xs : List Token). x ∷ xs) first rest
 
 -- a word is cut into tokens in at most one way
@@ -88,4 +88,4 @@ pub cut_one : (word : List ℕ) (tokens others : List Token) → IsCut word toke
 cut_one word tokens others a b =
     tokens_one word 0 tokens others a.tile b.tile a.parts b.parts
     (told_by_texts (map (lexeme_of word) tokens) (map (lexeme_of word) others) a.lexemes.each b.lexemes.each
-        (a.lexemes.whole ∙ sym b.lexemes.whole))
+    (a.lexemes.whole ∙ sym b.lexemes.whole))

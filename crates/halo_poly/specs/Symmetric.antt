@@ -42,7 +42,7 @@ AtLeastIsSum =
 abbrev pub ExactlyIsSum : Type 0
 ExactlyIsSum =
     (r : ℕ) (bs : List Bool)
-        → indicator (nat_eq (count_true bs) r) ≡ exactly_sum r (map indicator bs)
+    → indicator (nat_eq (count_true bs) r) ≡ exactly_sum r (map indicator bs)
 
 -- the j-th symmetric sum counts the parts with j statuses that exist whole
 abbrev pub SymmetricSumCounts : Type 0

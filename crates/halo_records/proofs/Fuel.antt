@@ -15,7 +15,9 @@ abbrev Between : State × Action → Type 0
 Between p = is_end p.1 ≡ true → ends_at_end p.0 ≡ false
 
 -- the actions inside a field
-in-between : (a b d : Bool) → Between (if a then (st.StartField, act.EndField) else if b then (if d then st.AfterCr else st.StartRecord, act.EndRecord) else (st.InField, act.Copy))
+in-between : (a b d : Bool)
+    → Between (if a then (st.StartField, act.EndField) else if b then
+    (if d then st.AfterCr else st.StartRecord, act.EndRecord) else (st.InField, act.Copy))
 in-between true b d e = cc e
 in-between false true true e = refl
 in-between false true false e = refl
@@ -68,23 +70,32 @@ Leaves n None = Unit {0}
 Leaves n (Some p) = (ends_at_end p.1 ≡ false) × (length p.2 ≤ n)
 
 -- after a record the machine is between two records, and no byte came back
-next-leaves : (s : State) (fields : List (List ℕ)) (field bytes : List ℕ) → Leaves (length bytes) (next_record default_config s fields field bytes)
+next-leaves : (s : State) (fields : List (List ℕ)) (field bytes : List ℕ)
+    → Leaves (length bytes) (next_record default_config s fields field bytes)
 unfolding next_record
 next-leaves s fields field [] = last (ends_at_end s)
   where
     last : (b : Bool) → Leaves 0 (if b then Some (fields ++ (field ∷ []), st.StartRecord, []) else None)
     last true = (refl, omega arith)
     last false = tt
-next-leaves s fields field (c ∷ rest) = by (is_end (step default_config s c).1) refl (next-leaves (step default_config s c).0 (fields_after (step default_config s c).1 fields field) (field_after (step default_config s c).1 c field) rest)
+next-leaves s fields field (c ∷ rest) =
+    by (is_end (step default_config s c).1) refl
+    (next-leaves (step default_config s c).0 (fields_after (step default_config s c).1 fields field)
+    (field_after (step default_config s c).1 c field) rest)
   where
     wider : (n m : ℕ) (o : Option Read) → n ≤ m → Leaves n o → Leaves m o
     wider n m None h l = tt
     wider n m (Some p) h l = (l.0, omega (arith, l.1))
 
     by : (b : Bool) → is_end (step default_config s c).1 ≡ b
-        → Leaves (length rest) (next_record default_config (step default_config s c).0 (fields_after (step default_config s c).1 fields field) (field_after (step default_config s c).1 c field) rest)
-        → Leaves (length (c ∷ rest)) (if b then Some (fields_after (step default_config s c).1 fields field, (step default_config s c).0, rest)
-        else next_record default_config (step default_config s c).0 (fields_after (step default_config s c).1 fields field) (field_after (step default_config s c).1 c field) rest)
+        → Leaves (length rest) (next_record default_config (step default_config s c).0
+        (fields_after (step default_config s c).1 fields field) (field_after (step default_config s c).1 c field)
+        rest)
+        → Leaves (length (c ∷ rest)) (if b then Some
+        (fields_after (step default_config s c).1 fields field, (step default_config s c).0, rest)
+        else next_record default_config (step default_config s c).0
+        (fields_after (step default_config s c).1 fields field) (field_after (step default_config s c).1 c field)
+        rest)
     by true e l = (ends-between s c e, omega arith)
     by false e l = wider _ _ _ (omega arith) l
 
@@ -94,7 +105,8 @@ Takes n None = Unit {0}
 Takes n (Some p) = (ends_at_end p.1 ≡ false) × (length p.2 < n)
 
 -- the next record takes a byte
-next-takes : (s : State) (bytes : List ℕ) → ends_at_end s ≡ false → Takes (length bytes) (next_record default_config s [] [] bytes)
+next-takes : (s : State) (bytes : List ℕ) → ends_at_end s ≡ false
+    → Takes (length bytes) (next_record default_config s [] [] bytes)
 unfolding next_record
 next-takes s [] b = rw b tt
 next-takes s (c ∷ rest) b = by (is_end (step default_config s c).1) refl
@@ -104,44 +116,60 @@ next-takes s (c ∷ rest) b = by (is_end (step default_config s c).1) refl
     wider (Some p) l = (l.0, omega (arith, l.1))
 
     by : (b : Bool) → is_end (step default_config s c).1 ≡ b
-        → Takes (length (c ∷ rest)) (if b then Some (fields_after (step default_config s c).1 [] [], (step default_config s c).0, rest)
-        else next_record default_config (step default_config s c).0 (fields_after (step default_config s c).1 [] []) (field_after (step default_config s c).1 c []) rest)
+        → Takes (length (c ∷ rest)) (if b then Some
+        (fields_after (step default_config s c).1 [] [], (step default_config s c).0, rest)
+        else next_record default_config (step default_config s c).0 (fields_after (step default_config s c).1 [] [])
+        (field_after (step default_config s c).1 c []) rest)
     by true e = (ends-between s c e, omega arith)
     by false e = wider _ (next-leaves _ _ _ rest)
 
 -- turns past the bytes change nothing
-fuel : (n m : ℕ) (s : State) (bytes : List ℕ) → ends_at_end s ≡ false → length bytes < n → length bytes < m → records_from default_config n s bytes ≡ records_from default_config m s bytes
+fuel : (n m : ℕ) (s : State) (bytes : List ℕ) → ends_at_end s ≡ false → length bytes < n → length bytes < m
+    → records_from default_config n s bytes ≡ records_from default_config m s bytes
 unfolding records_from
 fuel zero m s bytes b h k = absurd (omega arith)
 fuel (suc n) zero s bytes b h k = absurd (omega arith)
-fuel (suc n) (suc m) s bytes b h k = go (next_record default_config s [] [] bytes) (next-takes s bytes b) (λ s2 rest b2 h2. fuel n m s2 rest b2 (omega arith) (omega arith))
+fuel (suc n) (suc m) s bytes b h k =
+    go (next_record default_config s [] [] bytes) (next-takes s bytes b)
+    (λ s2 rest b2 h2. fuel n m s2 rest b2 (omega arith) (omega arith))
   where
     go : (o : Option Read) → Takes (length bytes) o
-        → ((s2 : State) (rest : List ℕ) → ends_at_end s2 ≡ false → length rest < length bytes → records_from default_config n s2 rest ≡ records_from default_config m s2 rest)
+        → ((s2 : State) (rest : List ℕ) → ends_at_end s2
+        ≡ false → length rest < length bytes
+        → records_from default_config n s2 rest ≡ records_from default_config m s2 rest)
         → records_next (records_from default_config n) o ≡ records_next (records_from default_config m) o
     go None t more = refl
     go (Some p) t more = ap (λ (q : List (List (List ℕ))). p.0 ∷ q) (more p.1 p.2 t.0 t.1)
 
 -- the records from a state: the next, and those behind it
-pub rest-cons : (s : State) (bytes : List ℕ) (p : Read) → ends_at_end s ≡ false → next_record default_config s [] [] bytes ≡ Some p
+pub rest-cons : (s : State) (bytes : List ℕ) (p : Read) → ends_at_end s ≡ false
+    → next_record default_config s [] [] bytes ≡ Some p
     → (ends_at_end p.1 ≡ false) × (rest_of s (Some bytes) ≡ p.0 ∷ rest_of p.1 (Some p.2))
 unfolding records_from
 rest-cons s bytes p b e =
-    let t = rw e at (next-takes s bytes b) in
-    (t.0, rw (add-one, e) (ap (λ (q : List (List (List ℕ))). p.0 ∷ q) (fuel (length bytes) (length p.2 + 1) p.1 p.2 t.0 t.1 (omega arith))))
+    let t = rw e at (next-takes s bytes b) in (
+      t.0,
+      rw (add-one, e) (ap (λ (q : List (List (List ℕ))). p.0 ∷ q)
+          (fuel (length bytes) (length p.2 + 1) p.1 p.2 t.0 t.1 (omega arith))),
+    )
 
 -- where there is no next record, none is left
-pub rest-nil : (s : State) (bytes : List ℕ) → next_record default_config s [] [] bytes ≡ None → rest_of s (Some bytes) ≡ []
+pub rest-nil : (s : State) (bytes : List ℕ) → next_record default_config s [] [] bytes ≡ None
+    → rest_of s (Some bytes) ≡ []
 unfolding records_from
 rest-nil s bytes e = rw (add-one, e) refl
 
 -- there are no more records than bytes
-from-length : (n : ℕ) (s : State) (bytes : List ℕ) → ends_at_end s ≡ false → length (records_from default_config n s bytes) ≤ length bytes
+from-length : (n : ℕ) (s : State) (bytes : List ℕ) → ends_at_end s ≡ false
+    → length (records_from default_config n s bytes) ≤ length bytes
 unfolding records_from
 from-length zero s bytes b = omega arith
-from-length (suc n) s bytes b = go (next_record default_config s [] [] bytes) (next-takes s bytes b) (λ s2 rest b2. from-length n s2 rest b2)
+from-length (suc n) s bytes b =
+    go (next_record default_config s [] [] bytes) (next-takes s bytes b) (λ s2 rest b2. from-length n s2 rest b2)
   where
-    go : (o : Option Read) → Takes (length bytes) o → ((s2 : State) (rest : List ℕ) → ends_at_end s2 ≡ false → length (records_from default_config n s2 rest) ≤ length rest)
+    go : (o : Option Read) → Takes (length bytes) o
+        → ((s2 : State) (rest : List ℕ) → ends_at_end s2
+        ≡ false → length (records_from default_config n s2 rest) ≤ length rest)
         → length (records_next (records_from default_config n) o) ≤ length bytes
     go None t more = omega arith
     go (Some p) t more = let h = more p.1 p.2 t.0 in let k = t.1 in omega arith

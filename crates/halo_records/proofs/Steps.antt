@@ -18,23 +18,39 @@ source-known r e = rw e (either _ _ _)
     either true x y = (x, refl)
     either false x y = (y, refl)
 
-together : (src next : Option (List ℕ)) (s s2 : State) (y z : List ℕ) (p : Read) (f : List (List ℕ)) → src ≡ Some y → next ≡ Some z
-    → rest_of s (Some y) ≡ p.0 ∷ rest_of p.1 (Some p.2) → f ≡ p.0 → p.1 ≡ s2 → p.2 ≡ z → rest_of s src ≡ f ∷ rest_of s2 next
+together : (src next : Option (List ℕ)) (s s2 : State) (y z : List ℕ) (p : Read) (f : List (List ℕ)) → src ≡ Some y
+    → next ≡ Some z
+    → rest_of s (Some y) ≡ p.0 ∷ rest_of p.1 (Some p.2) → f ≡ p.0 → p.1 ≡ s2 → p.2 ≡ z
+    → rest_of s src ≡ f ∷ rest_of s2 next
 together src next s s2 y z p f a b c d e g = rw (a, b, c, d, e, g) refl
 
 -- a read that found a record took the first of those left
-pub read-more : (old new : Reader (Bor (List ℕ))) (fields : List (List ℕ)) → IsGoing old → is_flexible new ≡ is_flexible old → took_first new ≡ true → has_failed new ≡ has_failed old
+pub read-more : (old new : Reader (Bor (List ℕ))) (fields : List (List ℕ)) → IsGoing old
+    → is_flexible new ≡ is_flexible old → took_first new ≡ true → has_failed new ≡ has_failed old
     → ReadRecord told old new true fields → IsGoing new × (left_of old ≡ fields ∷ left_of new)
 unfolding Reached
 read-more old new fields g flexible first fresh r =
     let (y, known) = source-known old g.fresh in
-    let (z, at_z, reached) = rows-more told old new fields default_config (reader_state old) y y [] g.config known (refl, refl) r in
+    let (z, at_z, reached) =
+    rows-more told old new fields default_config (reader_state old) y y [] g.config known (refl, refl) r in
     let (p, next, same, ends) = reached in
-    let cons = rest-cons (reader_state old) y p g.between next in
-    (record { fresh = fresh ∙ g.fresh; trim = r.3 ∙ g.trim; ready = inl first; config = r.2 ∙ g.config; flexible = flexible ∙ g.flexible; between = rw (← ends.0) cons.0 }, together _ _ _ _ y z p fields known at_z cons.1 same ends.0 ends.1)
+    let cons = rest-cons (reader_state old) y p g.between next in (
+      record {
+        fresh = fresh ∙ g.fresh;
+        trim = r.3 ∙ g.trim;
+        ready = inl first;
+        config = r.2 ∙ g.config;
+        flexible =
+            flexible ∙ g.flexible;
+        between =
+            rw (← ends.0) cons.0;
+      },
+      together _ _ _ _ y z p fields known at_z cons.1 same ends.0 ends.1,
+    )
 
 -- a read that found none shows that none is left
-pub read-end : (old new : Reader (Bor (List ℕ))) (fields : List (List ℕ)) → IsGoing old → ReadRecord told old new false fields → left_of old ≡ []
+pub read-end : (old new : Reader (Bor (List ℕ))) (fields : List (List ℕ)) → IsGoing old
+    → ReadRecord told old new false fields → left_of old ≡ []
 read-end old new fields g r =
     let (y, known) = source-known old g.fresh in
     rw known (rest-nil (reader_state old) y (rows-end told old new fields default_config y g.config known r))

@@ -35,7 +35,7 @@ coefficient-between holds (false ∷ s) =
     rw (coefficient-without (λ u. indicator (holds u)) s) (coefficient-between (λ u. holds (false ∷ u)) s)
 coefficient-between holds (true ∷ s) = rw (coefficient-with (λ u. indicator (holds u)) s)
     (difference-between (size_of s) _ _ (coefficient-between (λ u. holds (true ∷ u)) s)
-        (coefficient-between (λ u. holds (false ∷ u)) s))
+    (coefficient-between (λ u. holds (false ∷ u)) s))
 
 from-between : (size : ℕ) (z : ℤ) → IsBetween size z → (neg_ℤ (pos (2 ^ (size - 1))) ≤ℤ z) × (z ≤ℤ pos (2 ^ (size - 1)))
 from-between zero z h = (omega (arith, ints, h.0), h.1)
@@ -43,5 +43,5 @@ from-between (suc size) z h = let e : suc size - 1 ≡ size = omega arith in rw 
 
 pub coefficients-bounded : (holds : List Bool → Bool) (s : List Bool)
     → (neg_ℤ (pos (2 ^ (size_of s - 1))) ≤ℤ coefficient (λ u. indicator (holds u)) s)
-        × (coefficient (λ u. indicator (holds u)) s ≤ℤ pos (2 ^ (size_of s - 1)))
+    × (coefficient (λ u. indicator (holds u)) s ≤ℤ pos (2 ^ (size_of s - 1)))
 coefficients-bounded holds s = from-between (size_of s) _ (coefficient-between holds s)

@@ -62,4 +62,4 @@ module _ {X Y : Type 0} where
   int_sum_over-swap [] ys f = sym (int_sum_over-none ys)
   int_sum_over-swap (x ∷ xs) ys f =
       ap (λ z. int_sum_over ys (f x) +ℤ z) (int_sum_over-swap xs ys f)
-          ∙ sym (int_sum_over-add ys (f x) (λ y. int_sum_over xs (λ x. f x y)))
+      ∙ sym (int_sum_over-add ys (f x) (λ y. int_sum_over xs (λ x. f x y)))

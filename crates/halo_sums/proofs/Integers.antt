@@ -74,7 +74,7 @@ mul_le_mul a (pos b) c (negsuc d) x y h k = absurd (omega (arith, ints))
 pub lt_of_mul_lt : (x y k : ℕ) → x * k < y * k → x < y
 lt_of_mul_lt x y k h =
     ⊎_elim (λ (l : x < y). l) (λ (l : y ≤ x). let m : y * k ≤ x * k = mul-le-mul_right k l in absurd (omega arith))
-        (cases_lt x y)
+    (cases_lt x y)
 
 -- products of any sign: on the left of a sum, with the factors changed, at a difference and a negation
 pub mul_comm : (a b : ℤ) → a *ℤ b ≡ b *ℤ a

@@ -17,7 +17,7 @@ in-pairs g (suc n) a b m e f =
     let next : suc b ≡ 2 * a + 1 = omega arith in
     rw z (regroup (g b) (g (suc b)) (int_sum_over (numbers_from (suc (suc b)) (2 * n)) g)
     ∙ ap (λ z. z +ℤ int_sum_over (numbers_from (suc (suc b)) (2 * n)) g)
-        (ap (λ i. g i +ℤ g (suc b)) e ∙ ap (λ i. g (2 * a) +ℤ g i) next)
+    (ap (λ i. g i +ℤ g (suc b)) e ∙ ap (λ i. g (2 * a) +ℤ g i) next)
     ∙ ap (λ z. (g (2 * a) +ℤ g (2 * a + 1)) +ℤ z) (in-pairs g n (suc a) (suc (suc b)) (2 * n) (omega arith) refl))
   where
     regroup : (x y z : ℤ) → x +ℤ (y +ℤ z) ≡ (x +ℤ y) +ℤ z
@@ -41,7 +41,7 @@ int_sum_over-masks zero g = refl
 int_sum_over-masks (suc n) g =
     in-pairs (λ mask. g (bits (suc n) mask)) (2 ^ n) 0 0 (2 ^ suc n) refl (pow-suc 2 n ∙ omega arith)
     ∙ int_sum_over-ext masks _ _ (λ i. ap (λ s. g s +ℤ g (bits (suc n) (2 * i + 1))) (bits-even n i)
-        ∙ ap (λ s. g (false ∷ bits n i) +ℤ g s) (bits-odd n i))
+    ∙ ap (λ s. g (false ∷ bits n i) +ℤ g s) (bits-odd n i))
     ∙ int_sum_over-add masks (λ i. g (false ∷ bits n i)) (λ i. g (true ∷ bits n i))
     ∙ ap (λ z. z +ℤ int_sum_over masks (λ i. g (true ∷ bits n i))) (int_sum_over-masks n (λ u. g (false ∷ u)))
     ∙ ap (λ z. int_sum_over (sets n) (λ u. g (false ∷ u)) +ℤ z) (int_sum_over-masks n (λ u. g (true ∷ u)))

@@ -55,4 +55,4 @@ pub sum_over-swap : {X Y : Type 0} (xs : List X) (ys : List Y) (f : X → Y → 
 sum_over-swap [] ys f = sym (sum_over-none ys)
 sum_over-swap (x ∷ xs) ys f =
     ap (λ n. sum_over ys (f x) + n) (sum_over-swap xs ys f)
-        ∙ sym (sum_over-add ys (f x) (λ y. sum_over xs (λ x. f x y)))
+    ∙ sym (sum_over-add ys (f x) (λ y. sum_over xs (λ x. f x y)))

@@ -65,15 +65,20 @@ list_from d ts (inl first) later = elim (byte_next colon first.rest) [
       inl (record { members = one first.node; rest = first.rest; ends = ends; deep = first.deep; reads = first.reads })
   | inl next ↦
       let shorter : length next.0 < length ts =
-          omega (arith, node_pieces-longer first.node first.rest, ap length first.reads, ap length next.1) in
+      omega (arith, node_pieces-longer first.node first.rest, ap length first.reads, ap length next.1) in
       let reads = first.reads ∙ ap (node_pieces first.node) next.1 in
       elim (later next.0 shorter) [
         | inr none ↦ inr (no_tail d first.node ts next.0 reads none)
         | inl others ↦
             let a = first.deep in
             let b = others.deep in
-            inl (record { members = and first.node others.members; rest = others.rest; ends = others.ends;
-                deep = omega arith; reads = reads ∙ ap (λ ps. node_pieces first.node (byte colon ∷ ps)) others.reads })
+            inl (record {
+              members = and first.node others.members;
+              rest = others.rest;
+              ends = others.ends;
+              deep = omega arith;
+              reads = reads ∙ ap (λ ps. node_pieces first.node (byte colon ∷ ps)) others.reads;
+            })
       ]
 ]
 
@@ -90,8 +95,13 @@ body_by d list_at ts = elim (list_at ts) [
   | inr none ↦ inr (no_first_list d ts none)
   | inl first ↦ elim (byte_next stroke first.rest) [
     | inr other ↦
-        inl (record { body = list first.members; rest = first.rest; ends = (first.ends, other); deep = first.deep;
-            reads = first.reads })
+        inl (record {
+          body = list first.members;
+          rest = first.rest;
+          ends = (first.ends, other);
+          deep = first.deep;
+          reads = first.reads;
+        })
     | inl next ↦
         let reads = first.reads ∙ ap (members_pieces first.members) next.1 in
         elim (list_at next.0) [
@@ -99,10 +109,15 @@ body_by d list_at ts = elim (list_at ts) [
           | inl second ↦
               let a = first.deep in
               let b = second.deep in
-              inl (record { body = reversion first.members second.members; rest = second.rest; ends = second.ends;
-                  deep =
-                      omega arith; reads =
-                          reads ∙ ap (λ ps. members_pieces first.members (byte stroke ∷ ps)) second.reads })
+              inl (record {
+                body = reversion first.members second.members;
+                rest = second.rest;
+                ends = second.ends;
+                deep =
+                    omega arith;
+                reads =
+                    reads ∙ ap (λ ps. members_pieces first.members (byte stroke ∷ ps)) second.reads;
+              })
         ]
   ]
 ]
@@ -113,15 +128,19 @@ bracketed_by d list_at ts = elim (byte_next round_open ts) [
   | inl next ↦ elim (list_at next.0) [
     | inr none ↦
         inr (no_list (suc d) ts next.0 (omega arith) next.1
-            (let same : d ≡ suc d - 1 = omega arith in subst (λ k. NoMembers k next.0) same none))
+        (let same : d ≡ suc d - 1 = omega arith in subst (λ k. NoMembers k next.0) same none))
     | inl inner ↦
         let reads = next.1 ∙ ap (λ (ps : List Piece). byte round_open ∷ ps) inner.reads in
         elim (byte_next round_close inner.rest) [
           | inr other ↦ inr (no_close (suc d) inner.members ts inner.rest reads inner.ends other)
           | inl close ↦
               let a = inner.deep in
-              inl (record { members = inner.members; rest = close.0; deep = omega arith;
-                  reads = reads ∙ ap (λ ps. byte round_open ∷ members_pieces inner.members ps) close.1 })
+              inl (record {
+                members = inner.members;
+                rest = close.0;
+                deep = omega arith;
+                reads = reads ∙ ap (λ ps. byte round_open ∷ members_pieces inner.members ps) close.1;
+              })
         ]
   ]
 ]
@@ -133,17 +152,21 @@ unfolding NoBody
 group_by d body_at us = elim (body_at us) [
   | inr none ↦
       inr (no_group (suc d) us (λ body rest deep e. none body (byte round_close ∷ rest) (omega arith) (closes body rest)
-          e))
+      e))
   | inl inner ↦ elim (byte_next round_close inner.rest) [
     | inr other ↦
         inr (no_group (suc d) us (λ body rest deep e. other rest
-            (body_unique inner.body body inner.rest (byte round_close ∷ rest) inner.ends (closes body rest)
-                (sym inner.reads ∙ e)).1))
+        (body_unique inner.body body inner.rest (byte round_close ∷ rest) inner.ends (closes body rest)
+        (sym inner.reads ∙ e)).1))
     | inl close ↦
         let a = inner.deep in
-        inl (record { node = group inner.body; rest = close.0; deep = omega arith;
-            reads =
-                ap (λ (ps : List Piece). byte round_open ∷ ps) (inner.reads ∙ ap (body_pieces inner.body) close.1) })
+        inl (record {
+          node = group inner.body;
+          rest = close.0;
+          deep = omega arith;
+          reads =
+              ap (λ (ps : List Piece). byte round_open ∷ ps) (inner.reads ∙ ap (body_pieces inner.body) close.1);
+        })
   ]
 ]
 
@@ -154,10 +177,14 @@ term_at d us = elim (number_next us) [
   | inl next ↦ elim (byte_next angle_close next.1) [
     | inr other ↦ inr (no_term d _ us refl (λ years vs e. other vs (behind (sym next.2 ∙ e))))
     | inl close ↦
-        inl (record { node = term next.0; rest = close.0; deep = omega arith;
-            reads =
-                ap (λ (ps : List Piece). byte angle_open ∷ ps)
-                    (next.2 ∙ ap (λ (ps : List Piece). number next.0 ∷ ps) close.1) })
+        inl (record {
+          node = term next.0;
+          rest = close.0;
+          deep = omega arith;
+          reads =
+              ap (λ (ps : List Piece). byte angle_open ∷ ps)
+              (next.2 ∙ ap (λ (ps : List Piece). number next.0 ∷ ps) close.1);
+        })
   ]
 ]
 
@@ -170,10 +197,14 @@ at_least_by d bracketed_at rank us = elim (byte_next slash us) [
     | inr none ↦ inr (no_at_least d rank _ us refl (λ vs e. subst (NoBracketed d) (behind (sym next.1 ∙ e)) none))
     | inl inner ↦
         let a = inner.deep in
-        inl (record { node = at_least rank inner.members; rest = inner.rest; deep = omega arith;
-            reads =
-                ap (λ (ps : List Piece). number rank ∷ ps)
-                    (next.1 ∙ ap (λ (ps : List Piece). byte slash ∷ ps) inner.reads) })
+        inl (record {
+          node = at_least rank inner.members;
+          rest = inner.rest;
+          deep = omega arith;
+          reads =
+              ap (λ (ps : List Piece). number rank ∷ ps)
+              (next.1 ∙ ap (λ (ps : List Piece). byte slash ∷ ps) inner.reads);
+        })
   ]
 ]
 
@@ -190,11 +221,15 @@ exactly_by d bracketed_at us = elim (number_next us) [
       | inl by ↦ elim (bracketed_at by.0) [
         | inr none ↦
             inr (no_exactly d _ us refl (λ rank vs e. subst (NoBracketed d)
-                (behind (sym by.1 ∙ behind (sym close.1 ∙ behind (sym next.2 ∙ e)))) none))
+            (behind (sym by.1 ∙ behind (sym close.1 ∙ behind (sym next.2 ∙ e)))) none))
         | inl inner ↦
             let a = inner.deep in
-            inl (record { node = exactly next.0 inner.members; rest = inner.rest; deep = omega arith;
-                reads = cc (next.2, close.1, by.1, inner.reads) })
+            inl (record {
+              node = exactly next.0 inner.members;
+              rest = inner.rest;
+              deep = omega arith;
+              reads = cc (next.2, close.1, by.1, inner.reads);
+            })
       ]
     ]
   ]
@@ -210,8 +245,12 @@ node_by d bracketed_at group_at (bar ∷ us) = elim (bracketed_at us) [
   | inr none ↦ inr (no_last d _ us refl none)
   | inl inner ↦
       let a = inner.deep in
-      inl (record { node = last inner.members; rest = inner.rest; deep = omega arith;
-          reads = ap (λ (ps : List Piece). bar ∷ ps) inner.reads })
+      inl (record {
+        node = last inner.members;
+        rest = inner.rest;
+        deep = omega arith;
+        reads = ap (λ (ps : List Piece). bar ∷ ps) inner.reads;
+      })
 ]
 node_by d bracketed_at group_at (number rank ∷ us) = at_least_by d bracketed_at rank us
 node_by d bracketed_at group_at (byte b ∷ us) =
@@ -231,7 +270,7 @@ node_by d bracketed_at group_at (byte b ∷ us) =
 node_at : (d : ℕ) → NodeAt d
 node_at zero =
     node_by zero (λ ts. inr (no_depth zero ts refl))
-        (λ us. inr (no_group zero us (λ body rest deep e. absurd (omega arith))))
+    (λ us. inr (no_group zero us (λ body rest deep e. absurd (omega arith))))
 node_at (suc d) =
     node_by (suc d) (bracketed_by d (list_at d (node_at d))) (group_by d (body_by d (list_at d (node_at d))))
 

@@ -47,9 +47,12 @@ pieces_are [] [] good are = tt
 pieces_are [] (p ∷ ps) good are = absurd are
 pieces_are (l ∷ ls) [] good are = absurd are
 pieces_are (l ∷ ls) (p ∷ ps) good are =
-    let follows = subst (λ (k : Lexeme). lexeme.Follows k (texts ls)) (sym are.0.same) good.1 in
-    (piece_is l p good.0 are.0, subst (λ ks. lexeme.Follows (as_lexeme p) (texts ks)) (sym (pieces_lexemes ls ps are.1))
-        follows, pieces_are ls ps good.2 are.1)
+    let follows = subst (λ (k : Lexeme). lexeme.Follows k (texts ls)) (sym are.0.same) good.1 in (
+      piece_is l p good.0 are.0,
+      subst (λ ks. lexeme.Follows (as_lexeme p) (texts ks)) (sym (pieces_lexemes ls ps are.1))
+          follows,
+      pieces_are ls ps good.2 are.1,
+    )
 
 -- the lexeme of a piece is one
 lexeme_is : (p : Piece) → IsPiece p → IsLexeme (as_lexeme p)
@@ -87,7 +90,7 @@ all_one (p ∷ ps) (q ∷ qs) are others e =
 pub pieces_one : (ps qs : List Piece) → ArePieces ps → ArePieces qs → piece_texts ps ≡ piece_texts qs → ps ≡ qs
 pieces_one ps qs are others e =
     all_one ps qs are others (told_by_texts (map as_lexeme ps) (map as_lexeme qs) (lexemes_are ps are)
-        (lexemes_are qs others) e)
+    (lexemes_are qs others) e)
 
 -- what stands where there is no token
 abbrev pub no_token : Token

@@ -28,12 +28,24 @@ mutual
   node_are (term years) rest p are ends = (refl, tt, (p, (λ digit. omega arith), (refl, tt, are)))
   node_are (last ms) rest p are ends =
       (tt, clash, (refl, tt, members_are ms (byte round_close ∷ rest) p (refl, tt, are) clash))
-  node_are (at_least rank ms) rest p are ends =
-      (p.0, (λ digit. omega arith), (refl, tt,
-          (refl, tt, members_are ms (byte round_close ∷ rest) p.1 (refl, tt, are) clash)))
-  node_are (exactly rank ms) rest p are ends =
-      (refl, tt, (p.0, (λ digit. omega arith),
-          (refl, tt, (refl, tt, (refl, tt, members_are ms (byte round_close ∷ rest) p.1 (refl, tt, are) clash)))))
+  node_are (at_least rank ms) rest p are ends = (
+    p.0,
+    (λ digit. omega arith),
+    (
+      refl,
+      tt,
+      (refl, tt, members_are ms (byte round_close ∷ rest) p.1 (refl, tt, are) clash),
+    ),
+  )
+  node_are (exactly rank ms) rest p are ends = (
+    refl,
+    tt,
+    (
+      p.0,
+      (λ digit. omega arith),
+      (refl, tt, (refl, tt, (refl, tt, members_are ms (byte round_close ∷ rest) p.1 (refl, tt, are) clash))),
+    ),
+  )
   node_are (group body) rest p are ends = (refl, tt, body_are body (byte round_close ∷ rest) p (refl, tt, are) clash)
 
   pub members_are : (ms : Members) (rest : List Piece) → AreProper ms → ArePieces rest → EndsName rest

@@ -21,8 +21,11 @@ same_text (x ∷ xs) [] = inr (λ e. absurd cc)
 same_text (x ∷ xs) (y ∷ ys) = elim (cases_eq x y) [
   | inr differ ↦ inr (λ e. differ cc)
   | inl first ↦
-      elim (same_text xs ys) [ inr differ ↦ inr (λ e. differ (tail e)) | inl rest ↦ inl
-          (ap₂ (λ (b : ℕ) (bs : List ℕ). b ∷ bs) first rest) ]
+      elim (same_text xs ys) [
+        | inr differ ↦ inr (λ e. differ (tail e))
+        | inl rest ↦ inl
+            (ap₂ (λ (b : ℕ) (bs : List ℕ). b ∷ bs) first rest)
+      ]
 ]
 
 -- the kind that letters are, or that they are none
@@ -67,8 +70,13 @@ digits_first (b ∷ bytes) = elim (digit_choice b) [
   | inr other ↦ record { digits = []; rest = b ∷ bytes; whole = refl; all = All-nil IsDigit; stops = other }
   | inl digit ↦
       let more = digits_first bytes in
-      record { digits = b ∷ more.digits; rest = more.rest; whole = ap (λ bs. b ∷ bs) more.whole;
-          all = All-cons IsDigit b more.digits digit more.all; stops = more.stops }
+      record {
+        digits = b ∷ more.digits;
+        rest = more.rest;
+        whole = ap (λ bs. b ∷ bs) more.whole;
+        all = All-cons IsDigit b more.digits digit more.all;
+        stops = more.stops;
+      }
 ]
 
 -- a head that a text is
@@ -99,8 +107,12 @@ decreasing_by (b ∷ digits) rest all stops =
     let count : IsNumber (b ∷ digits) = (omega arith, all) in
     elim (kind_choice rest) [
       | inl kind ↦
-          inl (record { vary = decreasing (b ∷ digits); kind = kind.0; proper = count;
-              is = ap (λ (bs : List ℕ). letter_D ∷ b ∷ (digits ++ bs)) kind.1 })
+          inl (record {
+            vary = decreasing (b ∷ digits);
+            kind = kind.0;
+            proper = count;
+            is = ap (λ (bs : List ℕ). letter_D ∷ b ∷ (digits ++ bs)) kind.1;
+          })
       | inr none ↦ inr (no_kind (b ∷ digits) rest count stops none)
     ]
 
@@ -135,16 +147,20 @@ head_choice (b ∷ bytes) =
       | inr none ↦ elim (cases_eq b letter_I) [
         | inl same ↦ subst (λ c. Choice (c ∷ bytes)) (sym same) (elim (kind_choice bytes) [
           | inl kind ↦
-              inl (record { vary = increasing; kind = kind.0; proper = tt;
-                  is = ap (λ (bs : List ℕ). letter_I ∷ bs) kind.1 })
+              inl (record {
+                vary = increasing;
+                kind = kind.0;
+                proper = tt;
+                is = ap (λ (bs : List ℕ). letter_I ∷ bs) kind.1;
+              })
           | inr no_kind_here ↦ inr (no_increasing bytes no_kind_here)
         ])
         | inr no_I ↦ elim (cases_eq b letter_D) [
           | inl same ↦
               let first = digits_first bytes in
               subst (λ c. Choice (c ∷ bytes)) (sym same)
-                  (subst (λ bs. Choice (letter_D ∷ bs)) (sym first.whole)
-                      (decreasing_by first.digits first.rest first.all first.stops))
+              (subst (λ bs. Choice (letter_D ∷ bs)) (sym first.whole)
+              (decreasing_by first.digits first.rest first.all first.stops))
           | inr no_D ↦ inr (no_other_head b bytes none no_I no_D)
         ]
       ]

@@ -35,12 +35,19 @@ marked_pieces-longer : (place : ℕ) (rank : List ℕ) (ms : plain.Members) (res
     → nest_members ms + length rest < length (marked_pieces place rank ms rest)
 marked_pieces-longer zero rank (one m) rest = omega (arith, node_pieces-longer m (byte caret ∷ number rank ∷ rest))
 marked_pieces-longer zero rank (and m ms) rest =
-    omega (arith, node_pieces-longer m (byte caret ∷ number rank ∷ byte colon ∷ members_pieces ms rest),
-        members_pieces-longer ms rest)
+    omega (
+      arith,
+      node_pieces-longer m (byte caret ∷ number rank ∷ byte colon ∷ members_pieces ms rest),
+      members_pieces-longer ms rest,
+    )
 marked_pieces-longer (suc place) rank (one m) rest = node_pieces-longer m rest
 marked_pieces-longer (suc place) rank (and m ms) rest =
-    omega (arith, node_pieces-longer m (byte colon ∷ marked_pieces place rank ms rest), marked_pieces-longer place rank
-        ms rest)
+    omega (
+      arith,
+      node_pieces-longer m (byte colon ∷ marked_pieces place rank ms rest),
+      marked_pieces-longer place rank
+          ms rest,
+    )
 
 content_pieces-longer : (mark : Option Mark) (body : plain.Body) (rest : List Piece)
     → nest_body body + length rest < length (content_pieces mark body rest)

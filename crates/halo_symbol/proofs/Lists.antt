@@ -13,7 +13,7 @@ use Rattle.halo_symbol.specs.declared.tree.Node.{Node}
 -- a member more at the end of a list
 pub members_pieces-push : (first : plain.Node) (ms : List Node) (m : Node) (rest : List Piece)
     → members_pieces (members_of first (ms ++ m ∷ [])) rest
-        ≡ members_pieces (members_of first ms) (byte colon ∷ node_pieces (plain_node m) rest)
+    ≡ members_pieces (members_of first ms) (byte colon ∷ node_pieces (plain_node m) rest)
 members_pieces-push first [] m rest = refl
 members_pieces-push first (o ∷ ms) m rest =
     ap (λ ps. node_pieces first (byte colon ∷ ps)) (members_pieces-push (plain_node o) ms m rest)

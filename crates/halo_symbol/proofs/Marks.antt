@@ -37,8 +37,14 @@ parts : (place : ℕ) (rank : List ℕ) (ms : Members) (rest : List Piece) → p
 parts zero rank (one m) rest lt =
     record { upto = one m; after = rest; count = refl; pieces = refl; unmarked = refl; deep = omega arith }
 parts zero rank (and m ms) rest lt =
-    record { upto = one m; after = byte colon ∷ members_pieces ms rest; count = refl; pieces = refl; unmarked = refl;
-        deep = omega arith }
+    record {
+      upto = one m;
+      after = byte colon ∷ members_pieces ms rest;
+      count = refl;
+      pieces = refl;
+      unmarked = refl;
+      deep = omega arith;
+    }
 parts (suc place) rank (one m) rest lt = absurd (omega arith)
 parts (suc place) rank (and m ms) rest lt =
     let p = parts place rank ms rest (omega arith) in
@@ -57,7 +63,7 @@ pub marked_pieces-parts : (place : ℕ) (rank : List ℕ) (upto ms : Members) (a
     → member_count upto ≡ suc place
     → members_pieces upto after ≡ members_pieces ms rest
     → (members_pieces upto (byte caret ∷ number rank ∷ after) ≡ marked_pieces place rank ms rest)
-        × (place < member_count ms)
+    × (place < member_count ms)
 marked_pieces-parts zero rank (one m) (one n) after rest ends c e =
     let first = node_unique m n after rest e in (cc, omega arith)
 marked_pieces-parts zero rank (one m) (and n ns) after rest ends c e =
@@ -94,7 +100,7 @@ content_one k l None (Some n) b (reversion ns os) r s p q u v e = absurd q.1
 content_one k l (Some m) None (list ms) c r s p q u v e =
     let w = parts m.member m.rank ms r p.1 in
     absurd (v.1 _ (sym (body_unique (list w.upto) c _ s (caret_not_colon _, caret_not_stroke _) v.0
-        (sym w.pieces ∙ e)).1))
+    (sym w.pieces ∙ e)).1))
 content_one k l (Some m) None (reversion ms os) c r s p q u v e = absurd p.1
 content_one k l (Some m) (Some n) (list ms) (list ns) r s p q u v e =
     let w = parts m.member m.rank ms r p.1 in
@@ -126,7 +132,7 @@ no_body kind d ts none (Some mark) (reversion ms ns) rest allowed deep ends e = 
 pub no_marked : (kind : Kind) (d : ℕ) (b : Body) (ts us : List Piece) → Ends b (byte caret ∷ us)
     → ts ≡ body_pieces b (byte caret ∷ us)
     → ((rank : List ℕ) (upto ms : Members) (after rest : List Piece) → kind ≡ Insurance → b ≡ list upto → us
-        ≡ number rank ∷ after
+    ≡ number rank ∷ after
     → nest_members ms ≤ d → NotNext colon rest → members_pieces upto after ≡ members_pieces ms rest → ⊥)
     → NoContent kind d ts
 unfolding NoContent
@@ -135,7 +141,7 @@ no_marked kind d b ts us stops s none None body rest allowed deep ends e =
 no_marked kind d b ts us stops s none (Some mark) (list ms) rest allowed deep ends e =
     let w = parts mark.member mark.rank ms rest allowed.1 in
     let same =
-        body_unique b (list w.upto) (byte caret ∷ us) _ stops (caret_not_colon _, caret_not_stroke _)
-            (sym s ∙ e ∙ w.pieces) in
+    body_unique b (list w.upto) (byte caret ∷ us) _ stops (caret_not_colon _, caret_not_stroke _)
+    (sym s ∙ e ∙ w.pieces) in
     none mark.rank w.upto ms w.after rest allowed.0 same.0 (behind same.1) deep ends w.unmarked
 no_marked kind d b ts us stops s none (Some mark) (reversion ms ns) rest allowed deep ends e = allowed.1

@@ -64,7 +64,7 @@ no_term d ts us s none n r deep e = go n (sym s ∙ e)
 -- behind `[` a number, `]/` and a list in brackets have to come
 pub no_exactly : (d : ℕ) (ts us : List Piece) → ts ≡ byte square_open ∷ us
     → ((x : List ℕ) (vs : List Piece) → us ≡ number x ∷ byte square_close ∷ byte slash ∷ vs → NoBracketed d vs) → NoNode
-        d ts
+    d ts
 unfolding NoNode NoBracketed
 no_exactly d ts us s none n r deep e = go n deep (sym s ∙ e)
   where
@@ -120,7 +120,7 @@ unfolding NoMembers
 no_tail d m ts us s none (one n) r deep ends e = ends us (sym (node_unique m n (byte colon ∷ us) r (sym s ∙ e)).1)
 no_tail d m ts us s none (and n ns) r deep ends e =
     none ns r (omega arith) ends (behind (node_unique m n (byte colon ∷ us) (byte colon ∷ members_pieces ns r)
-        (sym s ∙ e)).1)
+    (sym s ∙ e)).1)
 
 -- behind `:` a member has to come
 pub no_next : (d : ℕ) (ms : Members) (ts us : List Piece) → ts ≡ members_pieces ms (byte colon ∷ us) → NoNode d us
@@ -143,4 +143,4 @@ no_second_list d ms ts us s none (list ns) r deep ends e =
     ends.1 us (sym (members_unique ms ns (byte stroke ∷ us) r (stroke_not_colon us) ends.0 (sym s ∙ e)).1)
 no_second_list d ms ts us s none (reversion ns os) r deep ends e =
     none os r (omega arith) ends (behind (members_unique ms ns (byte stroke ∷ us) (byte stroke ∷ members_pieces os r)
-        (stroke_not_colon us) (stroke_not_colon _) (sym s ∙ e)).1)
+    (stroke_not_colon us) (stroke_not_colon _) (sym s ∙ e)).1)

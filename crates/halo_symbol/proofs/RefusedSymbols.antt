@@ -45,7 +45,7 @@ no_defer d ts none s rest allowed deep e = none s.defer _ (defer_ends s.defer _ 
 -- behind a deferral a head has to come
 pub no_head : (d : ℕ) (defer : Option (List ℕ)) (ts us : List Piece) → DeferEnds defer us → ts ≡ defer_pieces defer us
     → ((v : Vary) (k : Kind) (rest : List Piece) → IsProperVary v → us ≡ name (head_text v k) ∷ rest → ⊥) → NoSymbol d
-        ts
+    ts
 unfolding NoSymbol
 no_head d defer ts us ends reads none s rest allowed deep e =
     none s.vary s.kind _ allowed.vary (after_defer defer us s rest ends (sym reads ∙ e)).1
@@ -56,7 +56,7 @@ head_left : (v : Vary) (k : Kind) (ts us : List Piece) (s : Symbol) (rest : List
     → (k ≡ s.kind) × (us ≡ causes_pieces s.causes (in_brackets s rest))
 head_left v k ts us s rest read allowed e =
     let defer =
-        after_defer read.defer (name (head_text v k) ∷ us) s rest (defer_ends read.defer _ _) (sym read.reads ∙ e) in
+    after_defer read.defer (name (head_text v k) ∷ us) s rest (defer_ends read.defer _ _) (sym read.reads ∙ e) in
     let head = after_head v k (head_text v k) us s rest read.proper allowed.vary refl defer.1 in
     (head.0.1, head.1)
 
@@ -66,13 +66,13 @@ unfolding NoCauses NoSymbol
 no_causes d v k ts us read none s rest allowed deep e =
     let left = head_left v k ts us s rest read allowed e in
     none s.causes _ (subst (λ kind. MayHaveCauses kind s.causes) (sym left.0) allowed.causes) (causes_end s.causes _)
-        left.1
+    left.1
 
 -- behind causes a body in square brackets has to come
 pub no_brackets : (d : ℕ) (v : Vary) (k : Kind) (c : Option Names) (ts us : List Piece)
     → HeadRead v k ts (causes_pieces c us) → CausesEnd c us
     → ((s : Symbol) (rest : List Piece) → IsAllowed s → k ≡ s.kind → nest_body s.body ≤ d → us ≡ in_brackets s rest → ⊥)
-        → NoSymbol d ts
+    → NoSymbol d ts
 unfolding NoSymbol
 no_brackets d v k c ts us read ends none s rest allowed deep e =
     let left = head_left v k ts (causes_pieces c us) s rest read allowed e in
@@ -85,7 +85,7 @@ pub no_content : (d : ℕ) (v : Vary) (k : Kind) (c : Option Names) (ts us vs : 
 unfolding NoContent
 no_content d v k c ts us vs read ends opens none = no_brackets d v k c ts us read ends (λ s rest allowed kind deep e.
     none s.mark s.body _ (subst (λ kind. MayHaveMark kind s.mark s.body) (sym kind) allowed.mark) deep
-        (content_ends s.mark s.body rest) (behind (sym opens ∙ e)))
+    (content_ends s.mark s.body rest) (behind (sym opens ∙ e)))
 
 -- behind the body `]` has to come
 pub no_square_close : (d : ℕ) (v : Vary) (k : Kind) (c : Option Names) (m : Option Mark) (b : Body)

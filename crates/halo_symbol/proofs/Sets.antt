@@ -29,17 +29,17 @@ causes_one None (Some names) r s u v e = absurd (u _ e)
 causes_one (Some names) None r s u v e = absurd (v _ (sym e))
 causes_one (Some m) (Some n) r s u v e =
     let rest =
-        names_one m.others n.others (byte brace_close ∷ r) (byte brace_close ∷ s) (brace_not_comma r)
-            (brace_not_comma s) (behind (behind e)) in
+    names_one m.others n.others (byte brace_close ∷ r) (byte brace_close ∷ s) (brace_not_comma r)
+    (brace_not_comma s) (behind (behind e)) in
     let set : List ℕ → List (List ℕ) → Option Names =
-        λ first others. Some (record { first = first; others = others }) in
+    λ first others. Some (record { first = first; others = others }) in
     let first : m.first ≡ n.first = cc in
     (ap₂ set first rest.0, behind rest.1)
 
 -- behind `{` names that the kind allows and `}` have to come
 pub no_set : (kind : Kind) (ts us : List Piece) → ts ≡ byte brace_open ∷ us
     → ((names : Names) (rest : List Piece) → kind ≡ Insurance → us
-        ≡ name names.first ∷ other_names_pieces names.others (byte brace_close ∷ rest) → ⊥)
+    ≡ name names.first ∷ other_names_pieces names.others (byte brace_close ∷ rest) → ⊥)
     → NoCauses kind ts
 unfolding NoCauses
 no_set kind ts us s none None rest allowed ends e = ends us (sym e ∙ s)

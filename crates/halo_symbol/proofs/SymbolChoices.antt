@@ -40,8 +40,12 @@ defer_choice ts = elim (number_next ts) [
   | inl years ↦ elim (byte_next stroke years.1) [
     | inr other ↦ inr (no_stroke years.0 ts years.1 years.2 other)
     | inl next ↦
-        inl (record { defer = Some years.0; rest = next.0; ends = tt;
-            reads = years.2 ∙ ap (λ (ps : List Piece). number years.0 ∷ ps) next.1 })
+        inl (record {
+          defer = Some years.0;
+          rest = next.0;
+          ends = tt;
+          reads = years.2 ∙ ap (λ (ps : List Piece). number years.0 ∷ ps) next.1;
+        })
   ]
 ]
 
@@ -74,8 +78,12 @@ names_from ts later = elim (byte_next comma ts) [
         elim (later first.1 (omega (arith, ap length reads))) [
           | inr none ↦ inr (no_later_names first.0 ts first.1 reads none)
           | inl more ↦
-              inl (record { names = first.0 ∷ more.names; rest = more.rest; ends = more.ends;
-                  reads = reads ∙ ap (λ (ps : List Piece). byte comma ∷ name first.0 ∷ ps) more.reads })
+              inl (record {
+                names = first.0 ∷ more.names;
+                rest = more.rest;
+                ends = more.ends;
+                reads = reads ∙ ap (λ (ps : List Piece). byte comma ∷ name first.0 ∷ ps) more.reads;
+              })
         ]
   ]
 ]
@@ -105,14 +113,19 @@ causes_choice k ts = elim (byte_next brace_open ts) [
         | inl more ↦ elim (byte_next brace_close more.rest) [
           | inr other ↦ inr (no_set k ts next.0 next.1 (λ names rest kind e.
               no_brace more.names names.others more.rest rest more.ends other
-                  (sym more.reads ∙ behind (sym first.2 ∙ e))))
+              (sym more.reads ∙ behind (sym first.2 ∙ e))))
           | inl close ↦
               let names : Names = record { first = first.0; others = more.names } in
               let inner =
-                  first.2 ∙ ap (λ (ps : List Piece). name first.0 ∷ ps)
-                      (more.reads ∙ ap (other_names_pieces more.names) close.1) in
-              inl (record { causes = Some names; rest = close.0; allowed = kind; ends = tt;
-                  reads = next.1 ∙ ap (λ (ps : List Piece). byte brace_open ∷ ps) inner })
+              first.2 ∙ ap (λ (ps : List Piece). name first.0 ∷ ps)
+              (more.reads ∙ ap (other_names_pieces more.names) close.1) in
+              inl (record {
+                causes = Some names;
+                rest = close.0;
+                allowed = kind;
+                ends = tt;
+                reads = next.1 ∙ ap (λ (ps : List Piece). byte brace_open ∷ ps) inner;
+              })
         ]
       ]
     ]
@@ -152,7 +165,7 @@ marked_choice k d upto ts us stops reads = elim (insurance_or k) [
       | inl whole ↦
           let place = last_place upto in
           let marked =
-              marked_pieces-parts place.0 rank.0 upto whole.members rank.1 whole.rest whole.ends place.1 whole.reads in
+          marked_pieces-parts place.0 rank.0 upto whole.members rank.1 whole.rest whole.ends place.1 whole.reads in
           inl (record {
             mark = Some (record { member = place.0; rank = rank.0 });
             body = list whole.members;
@@ -170,18 +183,32 @@ content_by : (k : Kind) (d : ℕ) (ts : List Piece) (body : Body) (rest : List P
     → nest_body body ≤ d → ts ≡ body_pieces body rest → AContent k d ts ⊎ NoContent k d ts
 content_by k d ts (list ms) rest ends deep reads = elim (byte_next caret rest) [
   | inr other ↦
-      inl (record { mark = None; body = list ms; rest = rest; allowed = tt; ends = (ends, other); deep = deep;
-          reads = reads })
+      inl (record {
+        mark = None;
+        body = list ms;
+        rest = rest;
+        allowed = tt;
+        ends = (ends, other);
+        deep = deep;
+        reads = reads;
+      })
   | inl next ↦
       marked_choice k d ms ts next.0 (subst (Ends (list ms)) next.1 ends) (reads ∙ ap (members_pieces ms) next.1)
 ]
 content_by k d ts (reversion ms ns) rest ends deep reads = elim (byte_next caret rest) [
   | inr other ↦
-      inl (record { mark = None; body = reversion ms ns; rest = rest; allowed = tt; ends = (ends, other); deep = deep;
-          reads = reads })
+      inl (record {
+        mark = None;
+        body = reversion ms ns;
+        rest = rest;
+        allowed = tt;
+        ends = (ends, other);
+        deep = deep;
+        reads = reads;
+      })
   | inl next ↦
       inr (no_marked k d (reversion ms ns) ts next.0 (subst (Ends (reversion ms ns)) next.1 ends)
-          (reads ∙ ap (body_pieces (reversion ms ns)) next.1)
+      (reads ∙ ap (body_pieces (reversion ms ns)) next.1)
       (λ rank prefix ls after more kind same. absurd cc))
 ]
 
@@ -204,13 +231,13 @@ behind_head : (d : ℕ) (ts us vs : List Piece) (defer : Option (List ℕ)) (tex
 behind_head d ts us vs defer text reads named head = elim (causes_choice head.kind vs) [
   | inr none ↦
       inr (no_causes d head.vary head.kind ts vs
-          (head_read defer text head.vary head.kind ts us vs vs reads named head.is head.proper refl) none)
+      (head_read defer text head.vary head.kind ts us vs vs reads named head.is head.proper refl) none)
   | inl causes ↦
       let read = head_read defer text head.vary head.kind ts us vs _ reads named head.is head.proper causes.reads in
       elim (byte_next square_open causes.rest) [
         | inr other ↦
             inr (no_brackets d head.vary head.kind causes.causes ts causes.rest read causes.ends
-                (λ s rest allowed kind deep e. other _ e))
+            (λ s rest allowed kind deep e. other _ e))
         | inl opens ↦ elim (content_choice head.kind d opens.0) [
           | inr none ↦
               inr (no_content d head.vary head.kind causes.causes ts causes.rest opens.0 read causes.ends opens.1 none)
@@ -219,20 +246,26 @@ behind_head d ts us vs defer text reads named head = elim (causes_choice head.ki
               elim (byte_next square_close content.rest) [
                 | inr other ↦
                     inr (no_square_close d head.vary head.kind causes.causes content.mark content.body ts causes.rest
-                        content.rest read causes.ends brackets content.allowed content.ends other)
+                    content.rest read causes.ends brackets content.allowed content.ends other)
                 | inl close ↦
                     let whole =
-                        brackets ∙ ap (λ (ps : List Piece). byte square_open ∷ content_pieces content.mark content.body
-                            ps) close.1 in
+                    brackets ∙ ap (λ (ps : List Piece). byte square_open ∷ content_pieces content.mark content.body
+                    ps) close.1 in
                     inl (record {
                       symbol =
-                          record { defer = read.defer; vary = head.vary; kind = head.kind; causes = causes.causes;
-                              body = content.body; mark = content.mark };
+                          record {
+                            defer = read.defer;
+                            vary = head.vary;
+                            kind = head.kind;
+                            causes = causes.causes;
+                            body = content.body;
+                            mark = content.mark;
+                          };
                       rest = close.0;
                       allowed = record { vary = head.proper; causes = causes.allowed; mark = content.allowed };
                       reads =
                           read.reads ∙ ap (λ (ps : List Piece). defer_pieces read.defer
-                              (name (head_text head.vary head.kind) ∷ causes_pieces causes.causes ps)) whole;
+                          (name (head_text head.vary head.kind) ∷ causes_pieces causes.causes ps)) whole;
                     })
               ]
         ]
@@ -248,7 +281,7 @@ symbol_to d ts = elim (defer_choice ts) [
     | inl named ↦ elim (head_choice named.0) [
       | inr none ↦
           inr (no_head d defer.defer ts defer.rest defer.ends defer.reads
-              (λ v k rest proper e. none v k proper (text_one (sym named.2 ∙ e))))
+          (λ v k rest proper e. none v k proper (text_one (sym named.2 ∙ e))))
       | inl head ↦ behind_head d ts defer.rest named.1 defer.defer named.0 defer.reads named.2 head
     ]
   ]

@@ -34,9 +34,11 @@ head_plain level Immediate p = ((refl, All-nil IsNameByte), λ e. absurd (omega 
 head_plain level Due p =
     ((refl, All-cons IsNameByte 100 [] refl (All-nil IsNameByte)), λ e. absurd (omega (arith, ap first_byte e)))
 head_plain increasing k p = ((refl, kind_in_name k), λ e. absurd (omega (arith, ap first_byte e)))
-head_plain (decreasing count) k p =
-    ((refl, All-append IsNameByte count (kind_text k) (λ i d lt. digit_in_name _ (p.1 i d lt)) (kind_in_name k)), λ e.
-        absurd (omega (arith, ap first_byte e)))
+head_plain (decreasing count) k p = (
+  (refl, All-append IsNameByte count (kind_text k) (λ i d lt. digit_in_name _ (p.1 i d lt)) (kind_in_name k)),
+  λ e.
+      absurd (omega (arith, ap first_byte e)),
+)
 
 marked_are : (place : ℕ) (rank : List ℕ) (ms : Members) (rest : List Piece) → IsNumber rank → AreProper ms
     → ArePieces rest → EndsName rest
@@ -46,11 +48,11 @@ marked_are zero rank (one m) rest r p are ends stops =
     node_are m (byte caret ∷ number rank ∷ rest) p (refl, tt, (r, stops, are)) clash
 marked_are zero rank (and m ms) rest r p are ends stops =
     node_are m (byte caret ∷ number rank ∷ byte colon ∷ members_pieces ms rest) p.0
-        (refl, tt, (r, (λ digit. omega arith), (refl, tt, members_are ms rest p.1 are ends))) clash
+    (refl, tt, (r, (λ digit. omega arith), (refl, tt, members_are ms rest p.1 are ends))) clash
 marked_are (suc place) rank (one m) rest r p are ends stops = node_are m rest p are ends
 marked_are (suc place) rank (and m ms) rest r p are ends stops =
     node_are m (byte colon ∷ marked_pieces place rank ms rest) p.0
-        (refl, tt, marked_are place rank ms rest r p.1 are ends stops) clash
+    (refl, tt, marked_are place rank ms rest r p.1 are ends stops) clash
 
 content_are : (mark : Option Mark) (body : Body) (rest : List Piece) → IfSome mark (λ mark. IsNumber mark.rank)
     → IsProperBody body → ArePieces rest
@@ -71,9 +73,16 @@ other_names_are : (names : List (List ℕ)) (rest : List Piece) → All IsPlainN
     → ArePieces (other_names_pieces names (byte brace_close ∷ rest))
 unfolding is_symbol_byte
 other_names_are [] rest p are = (refl, tt, are)
-other_names_are (text ∷ names) rest p are =
-    (refl, tt, (All-head IsPlainName text names p, name_ends names rest, other_names_are names rest
-        (All-tail IsPlainName text names p) are))
+other_names_are (text ∷ names) rest p are = (
+  refl,
+  tt,
+  (
+    All-head IsPlainName text names p,
+    name_ends names rest,
+    other_names_are names rest
+        (All-tail IsPlainName text names p) are,
+  ),
+)
 
 causes_are : (causes : Option Names) (rest : List Piece) → IfSome causes AreProperNames → ArePieces rest
     → ArePieces (causes_pieces causes rest)
@@ -97,8 +106,12 @@ pub symbol_are : (s : Symbol) (rest : List Piece) → IsProperSymbol s → ArePi
 unfolding is_symbol_byte
 symbol_are s rest p are =
     let brackets = content_are s.mark s.body rest p.mark p.body are in
-    defer_are s.defer _ p.defer (head_plain s.vary s.kind p.allowed.vary, head_ends s.causes _, causes_are s.causes _
-        p.causes (refl, tt, brackets))
+    defer_are s.defer _ p.defer (
+      head_plain s.vary s.kind p.allowed.vary,
+      head_ends s.causes _,
+      causes_are s.causes _
+          p.causes (refl, tt, brackets),
+    )
 
 marked_proper : (place : ℕ) (rank : List ℕ) (ms : Members) (rest : List Piece) → place < member_count ms
     → ArePieces (marked_pieces place rank ms rest)

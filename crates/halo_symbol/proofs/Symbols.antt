@@ -42,9 +42,11 @@ causes_end (Some names) rest = tt
 
 -- a body ends before `]`, with a mark or without
 pub content_ends : (m : Option Mark) (b : Body) (rest : List Piece) → ContentEnds m b (byte square_close ∷ rest)
-content_ends None (list ms) rest =
-    ((λ more e. absurd (omega (arith, ap first_code e)), λ more e. absurd (omega (arith, ap first_code e))), λ more e.
-        absurd (omega (arith, ap first_code e)))
+content_ends None (list ms) rest = (
+  (λ more e. absurd (omega (arith, ap first_code e)), λ more e. absurd (omega (arith, ap first_code e))),
+  λ more e.
+      absurd (omega (arith, ap first_code e)),
+)
 content_ends None (reversion ms ns) rest =
     (λ more e. absurd (omega (arith, ap first_code e)), λ more e. absurd (omega (arith, ap first_code e)))
 content_ends (Some mark) b rest = λ more e. absurd (omega (arith, ap first_code e))
@@ -76,10 +78,10 @@ after_causes c us s rest ends e = causes_one c s.causes us (in_brackets s rest) 
 pub after_content : (k : Kind) (m : Option Mark) (b : Body) (us : List Piece) (s : Symbol) (rest : List Piece)
     → MayHaveMark k m b → IsAllowed s → ContentEnds m b us
     → content_pieces m b us ≡ content_pieces s.mark s.body (byte square_close ∷ rest) → (m ≡ s.mark) × (b ≡ s.body)
-        × (us ≡ byte square_close ∷ rest)
+    × (us ≡ byte square_close ∷ rest)
 after_content k m b us s rest may allowed ends e =
     content_one k s.kind m s.mark b s.body us (byte square_close ∷ rest) may allowed.mark ends
-        (content_ends s.mark s.body rest) e
+    (content_ends s.mark s.body rest) e
 
 -- a symbol is told by its pieces
 pub symbol_one : (s t : Symbol) (r q : List Piece) → IsAllowed s → IsAllowed t → symbol_pieces s r ≡ symbol_pieces t q
@@ -88,6 +90,14 @@ symbol_one s t r q a b e =
     let defer = after_defer s.defer (from_head s r) t q (defer_ends s.defer _ _) e in
     let head = after_head s.vary s.kind (head_text s.vary s.kind) _ t q a.vary b.vary refl defer.1 in
     let causes = after_causes s.causes (in_brackets s r) t q (causes_end s.causes _) head.1 in
-    let content = after_content s.kind s.mark s.body _ t q a.mark b (content_ends s.mark s.body r) (behind causes.1) in
-    (λ i. record { defer = defer.0 i; vary = head.0.0 i; kind = head.0.1 i; causes = causes.0 i; body = content.1 i;
-        mark = content.0 i }, behind content.2)
+    let content = after_content s.kind s.mark s.body _ t q a.mark b (content_ends s.mark s.body r) (behind causes.1) in (
+      λ i. record {
+        defer = defer.0 i;
+        vary = head.0.0 i;
+        kind = head.0.1 i;
+        causes = causes.0 i;
+        body = content.1 i;
+        mark = content.0 i;
+      },
+      behind content.2,
+    )

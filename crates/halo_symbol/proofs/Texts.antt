@@ -17,7 +17,7 @@ mutual
       ap (λ bytes. rank ++ (slash ∷ round_open ∷ bytes)) (members_texts ms (byte round_close ∷ rest))
   node_texts (exactly rank ms) rest =
       ap (λ bytes. square_open ∷ (rank ++ (square_close ∷ slash ∷ round_open ∷ bytes)))
-          (members_texts ms (byte round_close ∷ rest))
+      (members_texts ms (byte round_close ∷ rest))
   node_texts (group body) rest = ap (λ bytes. round_open ∷ bytes) (body_texts body (byte round_close ∷ rest))
 
   pub members_texts : (ms : Members) (rest : List Piece)
@@ -25,25 +25,25 @@ mutual
   members_texts (one m) rest = node_texts m rest
   members_texts (and m ms) rest =
       node_texts m (byte colon ∷ members_pieces ms rest)
-          ∙ ap (λ bytes. node_bytes m (colon ∷ bytes)) (members_texts ms rest)
+      ∙ ap (λ bytes. node_bytes m (colon ∷ bytes)) (members_texts ms rest)
 
   pub body_texts : (body : Body) (rest : List Piece)
       → piece_texts (body_pieces body rest) ≡ body_bytes body (piece_texts rest)
   body_texts (list ms) rest = members_texts ms rest
   body_texts (reversion ms ns) rest =
       members_texts ms (byte stroke ∷ members_pieces ns rest)
-          ∙ ap (λ bytes. members_bytes ms (stroke ∷ bytes)) (members_texts ns rest)
+      ∙ ap (λ bytes. members_bytes ms (stroke ∷ bytes)) (members_texts ns rest)
 
 marked_texts : (place : ℕ) (rank : List ℕ) (ms : Members) (rest : List Piece)
     → piece_texts (marked_pieces place rank ms rest) ≡ marked_bytes place rank ms (piece_texts rest)
 marked_texts zero rank (one m) rest = node_texts m (byte caret ∷ number rank ∷ rest)
 marked_texts zero rank (and m ms) rest =
     node_texts m (byte caret ∷ number rank ∷ byte colon ∷ members_pieces ms rest)
-        ∙ ap (λ bytes. node_bytes m (caret ∷ (rank ++ (colon ∷ bytes)))) (members_texts ms rest)
+    ∙ ap (λ bytes. node_bytes m (caret ∷ (rank ++ (colon ∷ bytes)))) (members_texts ms rest)
 marked_texts (suc place) rank (one m) rest = node_texts m rest
 marked_texts (suc place) rank (and m ms) rest =
     node_texts m (byte colon ∷ marked_pieces place rank ms rest)
-        ∙ ap (λ bytes. node_bytes m (colon ∷ bytes)) (marked_texts place rank ms rest)
+    ∙ ap (λ bytes. node_bytes m (colon ∷ bytes)) (marked_texts place rank ms rest)
 
 content_texts : (mark : Option Mark) (body : Body) (rest : List Piece)
     → piece_texts (content_pieces mark body rest) ≡ content_bytes mark body (piece_texts rest)

@@ -39,18 +39,18 @@ mutual
   node_unique (term a) (term b) r s e = (cc, cc)
   node_unique (last ms) (last ns) r s e =
       let whole =
-          members_unique ms ns (byte round_close ∷ r) (byte round_close ∷ s) (close_not_colon r) (close_not_colon s) cc
-              in
+      members_unique ms ns (byte round_close ∷ r) (byte round_close ∷ s) (close_not_colon r) (close_not_colon s) cc
+      in
       (cc, cc)
   node_unique (at_least a ms) (at_least b ns) r s e =
       let whole =
-          members_unique ms ns (byte round_close ∷ r) (byte round_close ∷ s) (close_not_colon r) (close_not_colon s) cc
-              in
+      members_unique ms ns (byte round_close ∷ r) (byte round_close ∷ s) (close_not_colon r) (close_not_colon s) cc
+      in
       (cc, cc)
   node_unique (exactly a ms) (exactly b ns) r s e =
       let whole =
-          members_unique ms ns (byte round_close ∷ r) (byte round_close ∷ s) (close_not_colon r) (close_not_colon s) cc
-              in
+      members_unique ms ns (byte round_close ∷ r) (byte round_close ∷ s) (close_not_colon r) (close_not_colon s) cc
+      in
       (cc, cc)
   node_unique (group b) (group c) r s e =
       let whole = body_unique b c (byte round_close ∷ r) (byte round_close ∷ s) (closes b r) (closes c s) cc in
@@ -77,7 +77,7 @@ mutual
       absurd (v.1 _ (sym (members_unique ms ns (byte stroke ∷ members_pieces os r) s (stroke_not_colon _) v.0 e).1))
   body_unique (reversion ms os) (reversion ns ps) r s u v e =
       let first =
-          members_unique ms ns (byte stroke ∷ members_pieces os r) (byte stroke ∷ members_pieces ps s)
-              (stroke_not_colon _) (stroke_not_colon _) e in
+      members_unique ms ns (byte stroke ∷ members_pieces os r) (byte stroke ∷ members_pieces ps s)
+      (stroke_not_colon _) (stroke_not_colon _) e in
       let second = members_unique os ps r s u v (behind first.1) in
       (cc, second.1)

@@ -45,11 +45,18 @@ pieces_choice word = elim (cut_or_stuck word) [
   | inl cut ↦
       let lexemes = cut.1.lexemes in
       let found = pieces_for (map (lexeme_of word) cut.0) in
-      inl (found.0, record { each = pieces_are _ _ lexemes.each found.1;
-          whole = ap texts (pieces_lexemes _ _ found.1) ∙ lexemes.whole })
+      inl (
+        found.0,
+        record {
+          each = pieces_are _ _ lexemes.each found.1;
+          whole = ap texts (pieces_lexemes _ _ found.1) ∙ lexemes.whole;
+        },
+      )
   | inr stuck ↦
-      inr (λ ps are. cut_not_stuck word (map as_lexeme ps) stuck.0 (record { each = lexemes_are ps are.each;
-          whole = are.whole }) stuck.1)
+      inr (λ ps are. cut_not_stuck word (map as_lexeme ps) stuck.0 (record {
+        each = lexemes_are ps are.each;
+        whole = are.whole;
+      }) stuck.1)
 ]
 
 -- all pieces are read or some are left
@@ -67,7 +74,7 @@ status_by word ps are (inl read) = elim (nothing_left read.rest) [
   | inl nothing ↦ inl (read.body, spells_status word ps read.body are (read.reads ∙ ap (body_pieces read.body) nothing))
   | inr some ↦
       inr (λ body spells. some (body_unique read.body body read.rest [] read.ends (ends_nothing body)
-          (sym read.reads ∙ pieces_status word ps body are spells)).1)
+      (sym read.reads ∙ pieces_status word ps body are spells)).1)
 ]
 
 -- a word spells a status or none
@@ -86,11 +93,14 @@ symbol_by word ps are (inr none) = inr (λ s spells.
     none s [] spells.proper.allowed (omega (arith, symbol_pieces-longer s [], ap length reads)) reads)
 symbol_by word ps are (inl read) = elim (nothing_left read.rest) [
   | inl nothing ↦
-      inl (read.symbol, spells_symbol word ps read.symbol are read.allowed
-          (read.reads ∙ ap (symbol_pieces read.symbol) nothing))
+      inl (
+        read.symbol,
+        spells_symbol word ps read.symbol are read.allowed
+            (read.reads ∙ ap (symbol_pieces read.symbol) nothing),
+      )
   | inr some ↦
       inr (λ s spells. some (symbol_one read.symbol s read.rest [] read.allowed spells.proper.allowed
-          (sym read.reads ∙ pieces_spelled word ps s are spells)).1)
+      (sym read.reads ∙ pieces_spelled word ps s are spells)).1)
 ]
 
 -- a word spells a symbol or none

@@ -35,8 +35,10 @@ pieces_spelled word ps s are spells =
 pub spells_symbol : (word : List ℕ) (ps : List Piece) (s : Symbol) → ArePiecesIn word ps → IsAllowed s
     → ps ≡ symbol_pieces s [] → SpellsSymbol word s
 spells_symbol word ps s are allowed e =
-    record { proper = symbol_proper s [] allowed (subst ArePieces e are.each);
-        bytes = sym are.whole ∙ ap piece_texts e ∙ symbol_texts s [] }
+    record {
+      proper = symbol_proper s [] allowed (subst ArePieces e are.each);
+      bytes = sym are.whole ∙ ap piece_texts e ∙ symbol_texts s [];
+    }
 
 -- the pieces of a status are those of the word that spells it
 pub status_pieces : (word : List ℕ) (body : Body) → SpellsStatus word body → ArePiecesIn word (body_pieces body [])
@@ -54,8 +56,10 @@ pieces_status word ps body are spells =
 pub spells_status : (word : List ℕ) (ps : List Piece) (body : Body) → ArePiecesIn word ps → ps ≡ body_pieces body []
     → SpellsStatus word body
 spells_status word ps body are e =
-    record { proper = (body_proper body [] (subst ArePieces e are.each)).0;
-        bytes = sym are.whole ∙ ap piece_texts e ∙ body_texts body [] }
+    record {
+      proper = (body_proper body [] (subst ArePieces e are.each)).0;
+      bytes = sym are.whole ∙ ap piece_texts e ∙ body_texts body [];
+    }
 
 -- a body ends where nothing follows
 pub ends_nothing : (body : Body) → Ends body []
@@ -66,10 +70,10 @@ ends_nothing (reversion ms ns) = λ rest e. absurd cc
 pub symbol_unique : (word : List ℕ) (s t : Symbol) → SpellsSymbol word s → SpellsSymbol word t → s ≡ t
 symbol_unique word s t one other =
     (symbol_one s t [] [] one.proper.allowed other.proper.allowed
-        (pieces_spelled word (symbol_pieces s []) t (spelled_pieces word s one) other)).0
+    (pieces_spelled word (symbol_pieces s []) t (spelled_pieces word s one) other)).0
 
 -- a word spells at most one status
 pub status_unique : (word : List ℕ) (b c : Body) → SpellsStatus word b → SpellsStatus word c → b ≡ c
 status_unique word b c one other =
     (body_unique b c [] [] (ends_nothing b) (ends_nothing c)
-        (pieces_status word (body_pieces b []) c (status_pieces word b one) other)).0
+    (pieces_status word (body_pieces b []) c (status_pieces word b one) other)).0

@@ -18,7 +18,7 @@ abbrev mutual
       rank ++ (slash ∷ round_open ∷ members_bytes ms (round_close ∷ rest))
   node_bytes (exactly rank ms) rest =
       square_open ∷ (rank ++ (square_close ∷ slash ∷ round_open ∷ members_bytes ms
-          (round_close ∷ rest)))
+      (round_close ∷ rest)))
   node_bytes (group body) rest = round_open ∷ body_bytes body (round_close ∷ rest)
 
   -- a list, with `:` between its members
@@ -78,4 +78,4 @@ causes_bytes (Some names) rest =
 abbrev pub symbol_bytes : Symbol → List ℕ → List ℕ
 symbol_bytes s rest =
     defer_bytes s.defer (head_text s.vary s.kind ++ causes_bytes s.causes
-        (square_open ∷ content_bytes s.mark s.body (square_close ∷ rest)))
+    (square_open ∷ content_bytes s.mark s.body (square_close ∷ rest)))

@@ -77,4 +77,4 @@ piece_of-kind_and_text (byte b) = refl
 abbrev pub coded_pieces : Coded (List Piece)
 coded_pieces =
     coded_list (code_by (ℕ × List ℕ) (coded× coded_ℕ (coded_list coded_ℕ)) kind_and_text piece_of
-        piece_of-kind_and_text)
+    piece_of-kind_and_text)

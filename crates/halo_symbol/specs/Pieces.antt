@@ -18,7 +18,7 @@ abbrev mutual
       number rank ∷ byte slash ∷ byte round_open ∷ members_pieces ms (byte round_close ∷ rest)
   node_pieces (exactly rank ms) rest =
       byte square_open ∷ number rank ∷ byte square_close ∷ byte slash ∷ byte round_open ∷
-          members_pieces ms (byte round_close ∷ rest)
+      members_pieces ms (byte round_close ∷ rest)
   node_pieces (group body) rest = byte round_open ∷ body_pieces body (byte round_close ∷ rest)
 
   -- a list
@@ -66,4 +66,4 @@ causes_pieces (Some names) rest =
 abbrev pub symbol_pieces : Symbol → List Piece → List Piece
 symbol_pieces s rest =
     defer_pieces s.defer (name (head_text s.vary s.kind) ∷ causes_pieces s.causes
-        (byte square_open ∷ content_pieces s.mark s.body (byte square_close ∷ rest)))
+    (byte square_open ∷ content_pieces s.mark s.body (byte square_close ∷ rest)))

@@ -18,7 +18,8 @@ text_order x y = slice_cmp nat_cmp x.now y.now
 
 -- of the first n texts none is equal to the next
 abbrev pub DifferUpTo : List (Bor (List ℕ)) → ℕ → Type 0
-DifferUpTo xs n = (i : ℕ) (d : Bor (List ℕ)) → i + 1 < n → (get_or xs i d).now ≢ (get_or xs (i + 1) d).now
+DifferUpTo xs n =
+    (i : ℕ) (d : Bor (List ℕ)) → i + 1 < n → (get_or xs i d).now ≢ (get_or xs (i + 1) d).now
 
 -- no two texts are equal
 abbrev pub AreApart : List (Bor (List ℕ)) → Type 0
@@ -29,12 +30,14 @@ not_true true h = absurd (h refl)
 not_true false h = refl
 
 -- texts that differ, the second not before the first, rise
-rises : (x y : List ℕ) → is_lt (slice_cmp nat_cmp y x) ≡ false → x ≢ y → slice_cmp nat_cmp x y ≡ Less
+rises : (x y : List ℕ) → is_lt (slice_cmp nat_cmp y x) ≡ false → x ≢ y
+    → slice_cmp nat_cmp x y ≡ Less
 rises x y sorted differ = by_order (slice_cmp nat_cmp y x) refl
   where
     by_order : (o : Ordering) → slice_cmp nat_cmp y x ≡ o → slice_cmp nat_cmp x y ≡ Less
     by_order Less e = absurd (cc (e, sorted))
-    by_order Equal e = absurd (differ (sym ((bytes_eq-Decides y x).0 (sym (is_eq-slice_cmp y x) ∙ ap is_eq e))))
+    by_order Equal e =
+        absurd (differ (sym ((bytes_eq-Decides y x).0 (sym (is_eq-slice_cmp y x) ∙ ap is_eq e))))
     by_order Greater e = nat_list_cmp_total.antisymm x y ∙ ap ordering_reverse e
 
 -- a text is not before itself
@@ -44,10 +47,14 @@ below_differs x y less same =
     cc (equal, less)
 
 -- in rising texts each is below all later ones
-all_rise : (xs : List (Bor (List ℕ))) → IsSorted text_order xs → DifferUpTo xs (length xs) → (j i : ℕ) (d : Bor (List ℕ)) → i < j → j < length xs → text_order (get_or xs i d) (get_or xs j d) ≡ Less
+all_rise : (xs : List (Bor (List ℕ))) → IsSorted text_order xs → DifferUpTo xs (length xs)
+    → (j i : ℕ) (d : Bor (List ℕ)) → i < j → j < length xs
+    → text_order (get_or xs i d) (get_or xs j d) ≡ Less
 all_rise xs sorted differ zero i d lt within = absurd (omega (arith, lt))
 all_rise xs sorted differ (suc j) i d lt within = elim (cases_lt i j) [
-  | inl before ↦ nat_list_cmp_total.trans (get_or xs i d).now (get_or xs j d).now (get_or xs (suc j) d).now (all_rise xs sorted differ j i d before (omega (arith, within))) step
+  | inl before ↦
+      nat_list_cmp_total.trans (get_or xs i d).now (get_or xs j d).now (get_or xs (suc j) d).now
+      (all_rise xs sorted differ j i d before (omega (arith, within))) step
   | inr last ↦ rw (at_last last) step
 ]
   where
@@ -58,11 +65,15 @@ all_rise xs sorted differ (suc j) i d lt within = elim (cases_lt i j) [
     one = omega arith
 
     step : text_order (get_or xs j d) (get_or xs (suc j) d) ≡ Less
-    step = rw one at (rises _ _ (sorted j d (omega arith) (omega (arith, within))) (differ j d (omega (arith, within))))
+    step =
+        rw one at (rises _ _ (sorted j d (omega arith) (omega (arith, within)))
+        (differ j d (omega (arith, within))))
 
 -- sorted texts of which none is equal to the next are apart
-pub apart_in_order : (xs : List (Bor (List ℕ))) → IsSorted text_order xs → DifferUpTo xs (length xs) → AreApart xs
-apart_in_order xs sorted differ i j d lt within = below_differs _ _ (all_rise xs sorted differ j i d lt within)
+pub apart_in_order : (xs : List (Bor (List ℕ))) → IsSorted text_order xs → DifferUpTo xs (length xs)
+    → AreApart xs
+apart_in_order xs sorted differ i j d lt within =
+    below_differs _ _ (all_rise xs sorted differ j i d lt within)
 
 abbrev same_text : Bor (List ℕ) → Bor (List ℕ) → Bool
 same_text x y = bytes_eq x.now y.now
@@ -81,6 +92,11 @@ flips x y = either (same_text x y) (same_text y x) (λ e. turn x y e) (λ e. tur
 -- texts that are apart stay so in another order
 pub apart_permuted : (xs ys : List (Bor (List ℕ))) → IsPermutation xs ys → AreApart xs → AreApart ys
 apart_permuted xs ys moved apart i j d lt within same =
-    let distinct = IsDistinct-from_apart same_text xs (λ a b c below short. not_true _ (λ e. apart a b c below short ((bytes_eq-Decides _ _).0 e))) in
-    let still = apart_from_distinct same_text ys i j d (IsDistinct-IsPermutation same_text flips xs ys moved distinct) lt within in
+    let distinct =
+    IsDistinct-from_apart same_text xs
+    (λ a b c below short. not_true _
+    (λ e. apart a b c below short ((bytes_eq-Decides _ _).0 e))) in
+    let still =
+    apart_from_distinct same_text ys i j d
+    (IsDistinct-IsPermutation same_text flips xs ys moved distinct) lt within in
     cc ((bytes_eq-Decides _ _).1 same, still)

@@ -10,7 +10,8 @@ use Rattle.halo_table.proofs.Deciding.{first_place}
 -- the kind at a place of the order
 kind_at : ℕ → TableKind
 kind_at n =
-    get_or (kind.Header ∷ kind.Header ∷ kind.Fields ∷ kind.Name ∷ kind.Number ∷ kind.Large ∷ kind.Again ∷ kind.TooMany ∷ kind.Age ∷ kind.Decrements ∷ kind.Closed ∷ []) n kind.Header
+    get_or (kind.Header ∷ kind.Header ∷ kind.Fields ∷ kind.Name ∷ kind.Number ∷ kind.Large ∷
+    kind.Again ∷ kind.TooMany ∷ kind.Age ∷ kind.Decrements ∷ kind.Closed ∷ []) n kind.Header
 
 -- it is that kind
 kind_at_rank : (k : TableKind) → kind_at (rank k) ≡ k
@@ -44,11 +45,21 @@ rank_most kind.Decrements = omega arith
 rank_most kind.Closed = omega arith
 
 -- of the kinds that may hold there is a first one, or none holds
-pub first_kind : (holds : TableKind → Type 0) → ((k : TableKind) → Dec (holds k)) → ((k : TableKind) × IsFirst holds k) ⊎ ((k : TableKind) → holds k → ⊥)
-first_kind holds d = elim (first_place Stands (λ n. Dec.and (d (kind_at n)) (ℕ_discrete (rank (kind_at n)) n)) 11) [
-  | inl (n, lt, here, before) ↦ inl (kind_at n, record { here = here.0; none_before = (λ j less h. before (rank j) (let e = here.1 in omega arith) (stands j h)) })
-  | inr none ↦ inr (λ k h. none (rank k) (omega (arith, rank_most k)) (stands k h))
-]
+pub first_kind : (holds : TableKind → Type 0) → ((k : TableKind) → Dec (holds k))
+    → ((k : TableKind) × IsFirst holds k) ⊎ ((k : TableKind) → holds k → ⊥)
+first_kind holds d =
+    elim (first_place Stands (λ n. Dec.and (d (kind_at n)) (ℕ_discrete (rank (kind_at n)) n)) 11) [
+      | inl (n, lt, here, before) ↦
+          inl (
+            kind_at n,
+            record {
+              here = here.0;
+              none_before =
+                  (λ j less h. before (rank j) (let e = here.1 in omega arith) (stands j h));
+            },
+          )
+      | inr none ↦ inr (λ k h. none (rank k) (omega (arith, rank_most k)) (stands k h))
+    ]
   where
     Stands : ℕ → Type 0
     Stands n = holds (kind_at n) × (rank (kind_at n) ≡ n)

@@ -1,12 +1,14 @@
 -- Multiple-decrement tables as plain data, and what is looked up in them.
 use Rattle.std.specs.Prelude.{ℕ, ◌+◌, ◌-◌, ◌<◌, ◌≤◌, List, [], get_or, length, map}
 
--- a row of a table: the survivors at its age, and of these the leavers by each cause, in the order of the causes
+-- a row of a table: the survivors at its age, and of these the leavers by each cause, in the order
+-- of the causes
 pub record DecrementRow : Type 0 where
   pub survivors : ℕ
   pub leavers : List ℕ
 
--- a table: its name as bytes, the age of its first row, and its rows, one for each age from there on
+-- a table: its name as bytes, the age of its first row, and its rows, one for each age from there
+-- on
 pub record DecrementTable : Type 0 where
   pub name : List ℕ
   pub first_age : ℕ

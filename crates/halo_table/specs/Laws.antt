@@ -7,15 +7,22 @@ use Rattle.halo_table.specs.declared.fault.TableKind.{TableKind}
 
 -- a file has at most one first fault
 abbrev pub FirstFaultIsOne : Type 0
-FirstFaultIsOne = (records : List (List (List ℕ))) (row other_row : ℕ) (k other_kind : TableKind) → IsFirstFault records row k → IsFirstFault records other_row other_kind → (row ≡ other_row) × (k ≡ other_kind)
+FirstFaultIsOne =
+    (records : List (List (List ℕ))) (row other_row : ℕ) (k other_kind : TableKind)
+    → IsFirstFault records row k → IsFirstFault records other_row other_kind
+    → (row ≡ other_row) × (k ≡ other_kind)
 
 -- a file without fault has no first fault
 abbrev pub NoFaultIsFirst : Type 0
-NoFaultIsFirst = (records : List (List (List ℕ))) (row : ℕ) (k : TableKind) → NoFault records → IsFirstFault records row k → ⊥
+NoFaultIsFirst =
+    (records : List (List (List ℕ))) (row : ℕ) (k : TableKind) → NoFault records
+    → IsFirstFault records row k → ⊥
 
 -- every file has no fault, or a first one
 abbrev pub NoFaultOrFirst : Type 0
-NoFaultOrFirst = (records : List (List (List ℕ))) → NoFault records ⊎ ((row : ℕ) × (k : TableKind) × IsFirstFault records row k)
+NoFaultOrFirst =
+    (records : List (List (List ℕ)))
+    → NoFault records ⊎ ((row : ℕ) × (k : TableKind) × IsFirstFault records row k)
 
 -- the tables of a file without fault are sound
 abbrev pub TablesAreSound : Type 0

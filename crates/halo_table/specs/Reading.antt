@@ -12,11 +12,16 @@ use Rattle.halo_table.specs.declared.fault.TablesError.{TablesError}
 use Rattle.halo_table.specs.declared.fault.TablesError.TheVariants as error
 use Rattle.halo_table.specs.declared.row.RowNumbers.{RowNumbers}
 
--- each of a row's first fields, behind its name, is a number that is small enough, and stands at its place
+-- each of a row's first fields, behind its name, is a number that is small enough, and stands at
+-- its place
 abbrev pub AreNumbers : ℕ → List (List ℕ) → List ℕ → Type 0
-AreNumbers width row numbers = (j : ℕ) → 1 ≤ j → j < width → IsNumber (field row j) × (get_or numbers j 0 ≡ number (field row j)) × (number (field row j) ≤ greatest_at j)
+AreNumbers width row numbers =
+    (j : ℕ) → 1 ≤ j → j < width
+    → IsNumber (field row j) × (get_or numbers j 0 ≡ number (field row j))
+    × (number (field row j) ≤ greatest_at j)
 
--- the numbers of a row, or why it has none: a field that is no number comes before one that is too large
+-- the numbers of a row, or why it has none: a field that is no number comes before one that is too
+-- large
 abbrev pub ReadsNumbers : ℕ → List (List ℕ) → Result (List ℕ) TableKind → Type 0
 ReadsNumbers width row (Ok numbers) = AreNumbers width row numbers
 ReadsNumbers width row (Err kind.Number) = HasOther width row
@@ -36,14 +41,19 @@ ReadsRow width row (Ok r) = ((k : TableKind) → RowHolds width row k → ⊥) �
 ReadsRow width row (Err k) = IsFirst (RowHolds width row) k
 
 -- the numbers of a row, or the first kind that holds of it beside the record before it
-abbrev pub ReadsStep : ℕ → List (List ℕ) → Bool → List (List ℕ) → List (List ℕ) → Result RowNumbers TableKind → Type 0
+abbrev pub ReadsStep : ℕ → List (List ℕ) → Bool → List (List ℕ) → List (List ℕ)
+    → Result RowNumbers TableKind → Type 0
 ReadsStep width names is_first_row last row (Ok r) =
-    ((k : TableKind) → StepHolds width names is_first_row last row k → ⊥) × AreRowNumbers width row r
-ReadsStep width names is_first_row last row (Err k) = IsFirst (StepHolds width names is_first_row last row) k
+    ((k : TableKind) → StepHolds width names is_first_row last row k → ⊥)
+    × AreRowNumbers width row r
+ReadsStep width names is_first_row last row (Err k) =
+    IsFirst (StepHolds width names is_first_row last row) k
 
 -- the record before is behind record 1, ends its table, and has survivors left over
 abbrev pub IsLeftOpen : ℕ → RowNumbers → List (List ℕ) → Bool → List (List ℕ) → Type 0
-IsLeftOpen count before last found row = (1 < count) × (before.leaving ≢ get_or before.numbers 2 0) × (found ≡ true → field last 0 ≢ field row 0)
+IsLeftOpen count before last found row =
+    (1 < count) × (before.leaving ≢ get_or before.numbers 2 0)
+    × (found ≡ true → field last 0 ≢ field row 0)
 
 -- an error tells the first fault of a file; want of memory tells nothing
 abbrev pub IsTold : List (List (List ℕ)) → TablesError → Type 0
@@ -64,5 +74,6 @@ IsLastName (t ∷ next ∷ rest) name = IsLastName (next ∷ rest) name
 -- some tables with a row more behind those of the last
 abbrev pub with_last_row : List DecrementTable → DecrementRow → List DecrementTable
 with_last_row [] row = []
-with_last_row (t ∷ []) row = record { name = t.name; first_age = t.first_age; rows = t.rows ++ row ∷ [] } ∷ []
+with_last_row (t ∷ []) row =
+    record { name = t.name; first_age = t.first_age; rows = t.rows ++ row ∷ [] } ∷ []
 with_last_row (t ∷ next ∷ rest) row = t ∷ with_last_row (next ∷ rest) row

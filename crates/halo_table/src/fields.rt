@@ -22,10 +22,10 @@ pub const SURVIVORS: usize = 2;
 pub const FIRST_CAUSE: usize = 3;
 
 /// The greatest age in a tables file, in years.
-const GREATEST_AGE: u64 = 150;
+pub const GREATEST_AGE: u64 = 150;
 
 /// The greatest number of survivors or leavers in a tables file.
-const GREATEST_COUNT: u64 = 1_000_000_000_000;
+pub const GREATEST_COUNT: u64 = 1_000_000_000_000;
 
 /// The field at a place, from 0, and no bytes where there is none.
 pub fn cell(fields: &ByteRecord, place: usize) -> &[u8]
@@ -51,7 +51,7 @@ pub fn number_at(fields: &ByteRecord, place: usize) -> Result<u64, NumberFault>
 
 // Whether the causes of record 1 are names.
 fn are_names(fields: &ByteRecord) -> bool
-    ensures { IsTrue result ↔ ((j : ℕ) → 3 ≤ j → j < length (fields_of fields.now)
+    ensures { IsTrue result ↔ ((j : ℕ) → FIRST_CAUSE ≤ j → j < length (fields_of fields.now)
         → IsName (field (fields_of fields.now) j)) }
 {
     for place in FIRST_CAUSE..fields.len() {
@@ -64,9 +64,9 @@ fn are_names(fields: &ByteRecord) -> bool
 
 // The causes of record 1.
 fn causes_of(alloc: Global, fields: &ByteRecord) -> Result<Vec<&[u8]>, AllocError>
-    requires { 3 ≤ length (fields_of fields.now) }
+    requires { FIRST_CAUSE ≤ length (fields_of fields.now) }
     ensures { IfOk result (λ causes. map (λ cause. cause.now) causes.items
-        ≡ drop 3 (fields_of fields.now)) }
+        ≡ drop FIRST_CAUSE (fields_of fields.now)) }
 {
     let mut causes = Vec::with_capacity(alloc, fields.len() - FIRST_CAUSE)?;
     for place in FIRST_CAUSE..fields.len() {
@@ -91,8 +91,8 @@ fn are_apart(mut texts: Vec<&[u8]>) -> bool
 
 // Whether the causes of record 1 are names, no two of them equal.
 fn are_new_causes(alloc: Global, fields: &ByteRecord) -> Result<bool, AllocError>
-    requires { 3 ≤ length (fields_of fields.now) }
-    ensures { IfOk result (λ answer. IsTrue answer ↔ ((j : ℕ) → 3 ≤ j
+    requires { FIRST_CAUSE ≤ length (fields_of fields.now) }
+    ensures { IfOk result (λ answer. IsTrue answer ↔ ((j : ℕ) → FIRST_CAUSE ≤ j
         → j < length (fields_of fields.now) → IsNewCause (fields_of fields.now) j)) }
 {
     if !are_names(fields) {

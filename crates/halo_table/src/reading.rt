@@ -11,7 +11,7 @@ ghost use Rattle.halo_table.specs.Seen.{seen_row, seen_tables};
 
 use crate::fault::{TableFault, TableKind, TablesError};
 use crate::fields::{AGE, FIRST_CAUSE, NAME, SURVIVORS, cell, is_header};
-use crate::held::Tables;
+use crate::held::{LONGEST_FILE, Tables};
 use crate::naming::Name;
 use crate::row::{MOST_FIELDS, RowNumbers};
 use crate::step::read_step;
@@ -32,7 +32,7 @@ fn fault_at(row: u32, kind: TableKind) -> TablesError
 // Record 1 of a file, where it has no fault.
 fn read_header(alloc: Global, source: &mut Records) -> Result<ByteRecord, TablesError>
     ensures header { IfOk result (λ header. IsHeader (fields_of header)
-        × (length (fields_of header) ≤ 11) × (source.old ≡ fields_of header ∷ source.new)) }
+        × (length (fields_of header) ≤ MOST_FIELDS) × (source.old ≡ fields_of header ∷ source.new)) }
     ensures fault { IfErr result (λ error. IsTold source.old error) }
 {
     let mut header = ByteRecord::new(alloc);
@@ -57,7 +57,7 @@ fn read_header(alloc: Global, source: &mut Records) -> Result<ByteRecord, Tables
 // The causes that record 1 names.
 fn read_causes(alloc: Global, header: &ByteRecord) -> Result<Vec<Name>, AllocError>
     requires { IsHeader (fields_of header.now) }
-    ensures { IfOk result (λ causes. causes.items ≡ drop 3 (fields_of header.now)) }
+    ensures { IfOk result (λ causes. causes.items ≡ drop FIRST_CAUSE (fields_of header.now)) }
 {
     let mut causes = Vec::new(alloc);
     for place in FIRST_CAUSE..header.len() {
@@ -71,8 +71,8 @@ fn read_causes(alloc: Global, header: &ByteRecord) -> Result<Vec<Name>, AllocErr
 
 // The row that a record writes.
 fn row_from(numbers: &RowNumbers, width: usize) -> Row
-    requires low { 4 ≤ width }
-    requires high { width ≤ 11 }
+    requires low { FIRST_CAUSE < width }
+    requires high { width ≤ MOST_FIELDS }
     ensures { (fields : List (List ℕ)) → AreRowNumbers width fields numbers.now
         → seen_row result ≡ written_row fields }
 {
@@ -137,8 +137,8 @@ fn keep_row(
     width: usize,
     numbers: &RowNumbers,
 ) -> Result<(), AllocError>
-    requires low { 4 ≤ width }
-    requires high { width ≤ 11 }
+    requires low { FIRST_CAUSE < width }
+    requires high { width ≤ MOST_FIELDS }
     requires numbers { AreRowNumbers width (fields_of row.now) numbers.now }
     ensures { OnOk result ((rows : List (List (List ℕ)))
         → seen_tables tables.old.items ≡ grouped rows
@@ -177,8 +177,8 @@ fn read_rows(
     header: ByteRecord,
 ) -> Result<Vec<Table>, TablesError>
     requires header { IsHeader (fields_of header) }
-    requires few { length (fields_of header) ≤ 11 }
-    requires short { length source.old < 16777216 }
+    requires few { length (fields_of header) ≤ MOST_FIELDS }
+    requires short { length source.old < LONGEST_FILE }
     ensures fine { IfOk result (λ tables. NoFault (fields_of header ∷ source.old)
         × (seen_tables tables.items ≡ grouped source.old)) }
     ensures fault { IfErr result (λ error. IsTold (fields_of header ∷ source.old) error) }
@@ -213,7 +213,7 @@ fn read_rows(
 
 /// The tables of a file, or its first fault.
 pub fn read_all(alloc: Global, bytes: &[u8]) -> Result<Tables, TablesError>
-    requires { length bytes.now ≤ 16777216 }
+    requires { length bytes.now ≤ LONGEST_FILE }
     ensures { ReadsTables (records_of bytes.now) result }
 {
     let Ok(mut source) = Records::new(alloc, bytes) else {

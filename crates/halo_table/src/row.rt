@@ -1,5 +1,5 @@
 // A row by itself.
-ghost use Rattle.std.specs.Prelude.{◌≡◌, ◌≤◌, replicate};
+ghost use Rattle.std.specs.Prelude.{◌≡◌, ◌<◌, ◌≤◌, replicate};
 ghost use Rattle.csv.specs.Records.{fields_of};
 ghost use Rattle.halo_table.specs.Reading.{ReadsNumbers, ReadsRow};
 
@@ -21,7 +21,7 @@ pub struct RowNumbers {
 impl RowNumbers {
     /// Numbers that are all 0, as they stand before the first row.
     pub fn none() -> RowNumbers
-        ensures { result ≡ record { numbers = replicate 11 0; leaving = 0 } }
+        ensures { result ≡ record { numbers = replicate MOST_FIELDS 0; leaving = 0 } }
     {
         RowNumbers {
             numbers: [0; MOST_FIELDS],
@@ -34,7 +34,7 @@ impl RowNumbers {
 // that is too large.
 fn read_numbers(row: &ByteRecord, width: usize) -> Result<[u64; MOST_FIELDS], TableKind>
     requires low { 1 ≤ width }
-    requires high { width ≤ 11 }
+    requires high { width ≤ MOST_FIELDS }
     ensures { ReadsNumbers width (fields_of row.now) result }
 {
     let mut numbers = [0u64; MOST_FIELDS];
@@ -55,8 +55,8 @@ fn read_numbers(row: &ByteRecord, width: usize) -> Result<[u64; MOST_FIELDS], Ta
 
 /// The numbers of a row of `width` fields, or the first thing that is wrong with it by itself.
 pub fn read_row(row: &ByteRecord, width: usize) -> Result<RowNumbers, TableKind>
-    requires low { 4 ≤ width }
-    requires high { width ≤ 11 }
+    requires low { FIRST_CAUSE < width }
+    requires high { width ≤ MOST_FIELDS }
     ensures { ReadsRow width (fields_of row.now) result }
 {
     if row.len() != width {

@@ -9,8 +9,8 @@ ghost use Rattle.halo_table.specs.Reading.{AreRowNumbers, ReadsStep};
 ghost use Rattle.halo_table.specs.Seen.{seen_tables};
 
 use crate::fault::TableKind;
-use crate::fields::{AGE, NAME, SURVIVORS, cell};
-use crate::row::{RowNumbers, read_row};
+use crate::fields::{AGE, FIRST_CAUSE, GREATEST_AGE, NAME, SURVIVORS, cell};
+use crate::row::{MOST_FIELDS, RowNumbers, read_row};
 use crate::table::Table;
 use csv::ByteRecord;
 
@@ -39,7 +39,7 @@ fn is_again(continues: bool, tables: &[Table], row: &ByteRecord) -> bool
 
 // Whether a row starts one table too many.
 fn is_one_more(continues: bool, count: usize) -> bool
-    ensures { IsTrue result ↔ ((IsTrue continues → ⊥) × (64 ≤ count)) }
+    ensures { IsTrue result ↔ ((IsTrue continues → ⊥) × (MOST_TABLES ≤ count)) }
 {
     !continues && count >= MOST_TABLES
 }
@@ -54,7 +54,7 @@ fn continues_table(last: &ByteRecord, row: &ByteRecord, is_first_row: bool) -> b
 
 // Whether the age is not the one behind that of the row before.
 fn is_off_age(age: u64, continues: bool, age_before: u64) -> bool
-    requires { continues ≡ true → age_before ≤ 150 }
+    requires { continues ≡ true → age_before ≤ GREATEST_AGE }
     ensures { IsTrue result ↔ (IsTrue continues × (age ≢ age_before + 1)) }
 {
     continues && age != age_before + 1
@@ -78,8 +78,8 @@ pub fn read_step(
     width: usize,
     tables: &[Table],
 ) -> Result<RowNumbers, TableKind>
-    requires low { 4 ≤ width }
-    requires high { width ≤ 11 }
+    requires low { FIRST_CAUSE < width }
+    requires high { width ≤ MOST_FIELDS }
     requires fits { is_first_row ≡ false
         → before.now.leaving ≤ number (field (fields_of last.now) 2) }
     requires known { is_first_row ≡ false

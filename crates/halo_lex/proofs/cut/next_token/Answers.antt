@@ -20,7 +20,7 @@ pub returns-then-contains-clause-some : goal.returns-then-contains-clause-some
 unfolding is_symbol_byte
 returns-then-contains-clause-some c =
     let symbol : is_symbol_byte (get_or c.args.word.now c.args.from 0) ≡ true =
-        sym c.contains.ensures.value ∙ c.if-contains.true in
+    sym c.contains.ensures.value ∙ c.if-contains.true in
     byte_next c.args.word.now c.args.from c.requires symbol
 
 pub returns-else-contains-clause-none : goal.returns-else-contains-clause-none
@@ -29,7 +29,7 @@ returns-else-contains-clause-none c = record {
   letter = sym c.is_ascii_alphabetic.ensures.value ∙ c.if-is_ascii_alphabetic.false;
   digit =
       λ d. both_ways (is_ascii_digit (get_or c.args.word.now c.args.from 0))
-          (sym c.is_ascii_digit.ensures.value ∙ c.if-is_ascii_digit.false)
-              (digit_passes (get_or c.args.word.now c.args.from 0) d);
+      (sym c.is_ascii_digit.ensures.value ∙ c.if-is_ascii_digit.false)
+      (digit_passes (get_or c.args.word.now c.args.from 0) d);
   symbol = sym c.contains.ensures.value ∙ c.if-contains.false;
 }

@@ -6,4 +6,4 @@ use Rattle.halo_lex.proofs.line.words.Goals as goal
 pub returns : goal.returns
 returns c =
     subst (AreWords c.args.line.now) (append-nil c.loop-word.found.items)
-        (c.loop-word.invariant.found [] c.in_default.ensures.none)
+    (c.loop-word.invariant.found [] c.in_default.ensures.none)

@@ -36,7 +36,7 @@ pub group-returns-in_err-expect-clause-syntax : goal.group-returns-in_err-expect
 group-returns-in_err-expect-clause-syntax t c failed =
     no_group _ _ (λ body rest deep e.
     c.in_err-expect.ensures.1 rest (body_unique _ body _ _ c.in_ok-body.ensures.ends (closes body rest)
-        (sym c.in_ok-body.ensures.ok ∙ e)).1)
+    (sym c.in_ok-body.ensures.ok ∙ e)).1)
 
 pub body-returns-in_err-first-clause-syntax : goal.body-returns-in_err-first-clause-syntax
 body-returns-in_err-first-clause-syntax t c failed =
@@ -88,7 +88,7 @@ node-returns-in_err-bracketed-in-Some-Number-clause-syntax t c failed =
     let first : c.args.reader.now ≡ number c.in-Some-Number.rank.now ∷ c.next.new.self = grind arith in
     let none : NoBracketed c.args.depth c.expect.new.self = grind arith in
     no_at_least _ _ _ _ first (λ vs e. subst (NoBracketed c.args.depth)
-        (behind (sym c.in_ok-expect-in-Some-Number.ensures ∙ e)) none)
+    (behind (sym c.in_ok-expect-in-Some-Number.ensures ∙ e)) none)
 
 pub node-returns-in_err-years-in-Some-Byte-eq60-clause-syntax :
     goal.node-returns-in_err-years-in-Some-Byte-eq60-clause-syntax
@@ -101,7 +101,7 @@ pub node-returns-in_err-expect-in-Some-Byte-eq60-clause-syntax :
 node-returns-in_err-expect-in-Some-Byte-eq60-clause-syntax t c failed =
     let first : c.args.reader.now ≡ byte angle_open ∷ c.next.new.self = grind arith in
     no_term _ _ _ first (λ x vs e. c.in_err-expect-in-Some-Byte-eq60.ensures.1 _
-        (behind (sym c.in_ok-years-in-Some-Byte-eq60.ensures ∙ e)))
+    (behind (sym c.in_ok-years-in-Some-Byte-eq60.ensures ∙ e)))
 
 pub node-returns-in_err-rank-in-Some-Byte-eq91-clause-syntax :
     goal.node-returns-in_err-rank-in-Some-Byte-eq91-clause-syntax
@@ -114,7 +114,7 @@ pub node-returns-in_err-expect-in-Some-Byte-eq91-clause-syntax :
 node-returns-in_err-expect-in-Some-Byte-eq91-clause-syntax t c failed =
     let first : c.args.reader.now ≡ byte square_open ∷ c.next.new.self = grind arith in
     no_exactly _ _ _ first (λ x vs e. absurd (c.in_err-expect-in-Some-Byte-eq91.ensures.1 _
-        (behind (sym c.in_ok-rank-in-Some-Byte-eq91.ensures ∙ e))))
+    (behind (sym c.in_ok-rank-in-Some-Byte-eq91.ensures ∙ e))))
 
 pub node-returns-in_err-expect-in-Some-Byte-eq91-2-clause-syntax :
     goal.node-returns-in_err-expect-in-Some-Byte-eq91-2-clause-syntax
@@ -130,5 +130,5 @@ node-returns-in_err-bracketed-in-Some-Byte-eq91-clause-syntax t c failed =
     let none : NoBracketed c.args.depth c.expect-in-Some-Byte-eq91-2.new.self = grind arith in
     no_exactly _ _ _ first (λ x vs e. subst (NoBracketed c.args.depth)
     (behind (sym c.in_ok-expect-in-Some-Byte-eq91-2.ensures
-        ∙ behind (sym c.in_ok-expect-in-Some-Byte-eq91.ensures
-            ∙ behind (sym c.in_ok-rank-in-Some-Byte-eq91.ensures ∙ e)))) none)
+    ∙ behind (sym c.in_ok-expect-in-Some-Byte-eq91.ensures
+    ∙ behind (sym c.in_ok-rank-in-Some-Byte-eq91.ensures ∙ e)))) none)

@@ -24,7 +24,7 @@ returns-in_err-other-clause-syntax c failed =
     let so_far = behind (sym opened ∙ c.loop-reader.invariant) in
     no_set _ _ _ opened (λ names rest allowed e.
     no_name _ names.others _ rest c.in_err-other.ensures.1
-        (ap (other_names_pieces _) (sym read) ∙ behind (sym so_far ∙ e)))
+    (ap (other_names_pieces _) (sym read) ∙ behind (sym so_far ∙ e)))
 
 pub loop-reader-preserved : goal.loop-reader-preserved
 loop-reader-preserved c =
@@ -33,11 +33,11 @@ loop-reader-preserved c =
     let more : map now c.push.new.self.items ≡ map now c.loop-reader.others.items ++ c.in_ok-other.other.now ∷ [] =
     ap (map now) c.in_ok-push.ensures.items ∙ map-append now c.loop-reader.others.items (c.in_ok-other.other ∷ []) in
     let step : other_names_pieces (map now c.loop-reader.others.items) c.loop-reader.reader
-        ≡ other_names_pieces (map now c.push.new.self.items) c.name-in-loop-reader.new.self =
+    ≡ other_names_pieces (map now c.push.new.self.items) c.name-in-loop-reader.new.self =
     ap (other_names_pieces (map now c.loop-reader.others.items))
-        (read ∙ ap (λ (ps : List Piece). byte comma ∷ ps) c.in_ok-other.ensures)
+    (read ∙ ap (λ (ps : List Piece). byte comma ∷ ps) c.in_ok-other.ensures)
     ∙ sym (ap (λ (names : List (List ℕ)). other_names_pieces names c.name-in-loop-reader.new.self) more
-        ∙ other_names_pieces-push _ _ _) in
+    ∙ other_names_pieces-push _ _ _) in
     c.loop-reader.invariant ∙ ap (λ (ps : List Piece). byte brace_open ∷ name c.in_ok-first.first.now ∷ ps) step
 
 pub returns-in_err-expect-clause-syntax : goal.returns-in_err-expect-clause-syntax
@@ -47,4 +47,4 @@ returns-in_err-expect-clause-syntax c failed =
     let so_far = behind (sym opened ∙ c.loop-reader.invariant) in
     no_set _ _ _ opened (λ names rest allowed e.
     no_brace _ names.others _ rest stopped.1 (subst (NotNext brace_close) stopped.0 c.in_err-expect.ensures.1)
-        (behind (sym so_far ∙ e)))
+    (behind (sym so_far ∙ e)))

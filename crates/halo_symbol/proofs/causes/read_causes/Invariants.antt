@@ -8,7 +8,7 @@ use Rattle.halo_symbol.proofs.causes.read_causes.Given as goal
 abbrev pub invariant-loop-reader : goal.invariant-loop-reader
 invariant-loop-reader l =
     l.fn.reader ≡ byte brace_open ∷ name l.first ∷ other_names_pieces
-        (map (λ (other : Bor (List ℕ)). other.now) l.others.items) l.reader
+    (map (λ (other : Bor (List ℕ)). other.now) l.others.items) l.reader
 
 abbrev pub decreases-loop-reader : goal.decreases-loop-reader
 decreases-loop-reader l = length l.reader

@@ -27,7 +27,7 @@ returns-in_default-clause-syntax c failed =
     let stops = subst (Ends body) read c.in_ok-body.ensures.ends in
     no_marked _ _ body _ _ stops (c.in_ok-body.ensures.ok ∙ ap (body_pieces body) read)
     (λ rank upto ms after rest kind one. let two = plain_body-Reversion c.in_default.field-0 c.in_default.field-1 in
-        absurd (cc (one, two)))
+    absurd (cc (one, two)))
 
 pub returns-then-ne-clause-syntax : goal.returns-then-ne-clause-syntax
 returns-then-ne-clause-syntax c failed =
@@ -58,7 +58,7 @@ returns-in_err-members-clause-syntax c failed =
     let stops = subst (Ends body) read c.in_ok-body.ensures.ends in
     let whole = ap plain_body c.in-List.is ∙ plain_body-List c.in-List.members in
     let none : NoMembers c.args.depth (members_pieces (plain_members c.in-List.members) c.number.new.self) =
-        grind arith in
+    grind arith in
     no_marked _ _ body _ _ stops (c.in_ok-body.ensures.ok ∙ ap (body_pieces body) read)
     (λ rank upto ms after rest kind one e deep ends same.
     let before : plain_members c.in-List.members ≡ upto = list_one (sym whole ∙ one) in
@@ -70,19 +70,22 @@ returns c =
     let ms = c.in_ok-members.members in
     let whole = ap plain_body c.in-List.is ∙ plain_body-List c.in-List.members in
     let read =
-        c.takes.ensures.yes c.if-not-takes.false ∙ ap (λ (ps : List Piece). byte caret ∷ ps) c.in_ok-rank.ensures in
+    c.takes.ensures.yes c.if-not-takes.false ∙ ap (λ (ps : List Piece). byte caret ∷ ps) c.in_ok-rank.ensures in
     let len : length c.in-List.members.others.items ≡ c.len.result = grind arith in
     let place : member_count upto ≡ suc c.len.result = member_count-members_of _ _ ∙ ap suc len in
     let marked =
-        marked_pieces-parts c.len.result c.in_ok-rank.rank.now upto (plain_members ms) _ _ c.in_ok-members.ensures.ends
-            place c.in_ok-members.ensures.ok in
+    marked_pieces-parts c.len.result c.in_ok-rank.rank.now upto (plain_members ms) _ _ c.in_ok-members.ensures.ends
+    place c.in_ok-members.ensures.ok in
     let kind : c.args.kind ≡ Insurance = grind arith in
     let mark : Option Mark = Some (record { member = c.len.result; rank = c.in_ok-rank.rank.now }) in
     let HasRead : Body → Type 0 =
-        λ body. (c.args.reader.now ≡ content_pieces mark body c.more_members.new.reader)
-            × MayHaveMark c.args.kind mark body × (nest_body body ≤ c.args.depth) in
+    λ body. (c.args.reader.now ≡ content_pieces mark body c.more_members.new.reader)
+    × MayHaveMark c.args.kind mark body × (nest_body body ≤ c.args.depth) in
     let done =
-        subst HasRead (sym (plain_body-List ms))
-            (c.in_ok-body.ensures.ok ∙ ap₂ body_pieces whole read
-                ∙ marked.0, (kind, marked.1), c.in_ok-members.ensures.deep) in
+    subst HasRead (sym (plain_body-List ms)) (
+      c.in_ok-body.ensures.ok ∙ ap₂ body_pieces whole read
+          ∙ marked.0,
+      (kind, marked.1),
+      c.in_ok-members.ensures.deep,
+    ) in
     record { ok = done.0; ends = c.in_ok-members.ensures.ends; allowed = done.1; deep = done.2; syntax = search rules }

@@ -17,7 +17,7 @@ unfolding NoSymbol
 returns-in_err-symbol-clause-syntax c failed s deep spells =
     let ps = map plain_piece c.in_ok-pieces.pieces.items in
     let are : ArePiecesIn c.args.word.now ps =
-        record { each = c.in_ok-pieces.ensures.ok; whole = c.in_ok-pieces.ensures.whole } in
+    record { each = c.in_ok-pieces.ensures.ok; whole = c.in_ok-pieces.ensures.whole } in
     let same : c.new-reader.result ≡ ps = grind arith in
     let failed_there : NoSymbol 16 c.new-reader.result = grind arith in
     let none : NoSymbol 16 ps = subst (NoSymbol 16) same failed_there in
@@ -27,17 +27,17 @@ pub returns-in_err-end-clause-syntax : goal.returns-in_err-end-clause-syntax
 returns-in_err-end-clause-syntax c failed s deep spells =
     let ps = map plain_piece c.in_ok-pieces.pieces.items in
     let are : ArePiecesIn c.args.word.now ps =
-        record { each = c.in_ok-pieces.ensures.ok; whole = c.in_ok-pieces.ensures.whole } in
+    record { each = c.in_ok-pieces.ensures.ok; whole = c.in_ok-pieces.ensures.whole } in
     let same : c.new-reader.result ≡ ps = grind arith in
     c.in_err-end.ensures.1 (symbol_one (plain_symbol c.in_ok-symbol.symbol) s _ [] c.in_ok-symbol.ensures.allowed
-        spells.proper.allowed (sym c.in_ok-symbol.ensures.ok ∙ same ∙ pieces_spelled c.args.word.now ps s are spells)).1
+    spells.proper.allowed (sym c.in_ok-symbol.ensures.ok ∙ same ∙ pieces_spelled c.args.word.now ps s are spells)).1
 
 pub returns-clause-spelled : goal.returns-clause-spelled
 returns-clause-spelled c =
     let ps = map plain_piece c.in_ok-pieces.pieces.items in
     let are : ArePiecesIn c.args.word.now ps =
-        record { each = c.in_ok-pieces.ensures.ok; whole = c.in_ok-pieces.ensures.whole } in
+    record { each = c.in_ok-pieces.ensures.ok; whole = c.in_ok-pieces.ensures.whole } in
     let same : c.new-reader.result ≡ ps = grind arith in
     spells_symbol c.args.word.now ps (plain_symbol c.in_ok-symbol.symbol) are c.in_ok-symbol.ensures.allowed
-        (sym same ∙ c.in_ok-symbol.ensures.ok ∙ ap (symbol_pieces (plain_symbol c.in_ok-symbol.symbol))
-            c.in_ok-end.ensures)
+    (sym same ∙ c.in_ok-symbol.ensures.ok ∙ ap (symbol_pieces (plain_symbol c.in_ok-symbol.symbol))
+    c.in_ok-end.ensures)

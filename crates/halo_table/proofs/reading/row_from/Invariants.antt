@@ -7,5 +7,6 @@ use Rattle.halo_table.proofs.reading.row_from.Given as goal
 abbrev pub invariant-loop-place : goal.invariant-loop-place
 invariant-loop-place l = record {
   room : array_vec_len l.leavers + 3 ≡ l.place;
-  leavers : (fields : List (List ℕ)) → AreRowNumbers l.width fields l.numbers → l.leavers.items ≡ map number (drop 3 (take l.place fields));
+  leavers : (fields : List (List ℕ)) → AreRowNumbers l.width fields l.numbers
+      → l.leavers.items ≡ map number (drop 3 (take l.place fields));
 }

@@ -12,17 +12,27 @@ pub loop-place-preserved : goal.loop-place-preserved
 loop-place-preserved c =
     let row = fields_of c.args.row.now in
     let was = c.loop-place.invariant in
-    let more : IsNumber (field (fields_of c.args.row.now) c.loop-place.place) → (j : ℕ) → 1 ≤ j → j < c.loop-place.place + 1 → IsNumber (field (fields_of c.args.row.now) j) =
-    (λ is j low lt. below_more (λ k. 1 ≤ k → IsNumber (field (fields_of c.args.row.now) k)) c.loop-place.place (λ k less one. was.0 k one less) (λ _. is) j lt low) in
+    let more : IsNumber (field (fields_of c.args.row.now) c.loop-place.place) → (j : ℕ) → 1 ≤ j
+    → j < c.loop-place.place + 1 → IsNumber (field (fields_of c.args.row.now) j) =
+    (λ is j low lt. below_more (λ k. 1 ≤ k → IsNumber (field (fields_of c.args.row.now) k))
+    c.loop-place.place (λ k less one. was.0 k one less) (λ _. is) j lt low) in
     elim c.match-number_at.branch [
       | in-Err-Above w ↦
-          let h = rw w.in-Err-Above.field-0-is at w.in-Err-Above.ensures in
-          (more h.0, (λ e. (c.loop-place.place, omega arith, omega arith, h.1)), (λ e. cc), rw w.numbers-is was.3)
+          let h = rw w.in-Err-Above.field-0-is at w.in-Err-Above.ensures in (
+            more h.0,
+            (λ e. (c.loop-place.place, omega arith, omega arith, h.1)),
+            (λ e. cc),
+            rw
+                w.numbers-is was.3,
+          )
       | in-Ok w ↦
           let h = w.in-Ok.ensures in (
             more h.0,
-            (λ e. let old = was.1 (sym w.large-is ∙ e) in (old.0, old.1, omega (arith, old.2), old.3)),
-            (λ e. rw w.numbers-is (numbers_more (fields_of c.args.row.now) c.loop-place.numbers c.loop-place.place _ (omega (arith, was.3)) h.0 h.1 h.2 (was.2 (sym w.large-is ∙ e)))),
+            (λ e. let old = was.1 (sym w.large-is ∙ e) in
+                (old.0, old.1, omega (arith, old.2), old.3)),
+            (λ e. rw w.numbers-is (numbers_more (fields_of c.args.row.now) c.loop-place.numbers
+                c.loop-place.place _ (omega (arith, was.3)) h.0 h.1 h.2
+                (was.2 (sym w.large-is ∙ e)))),
             rw (w.numbers-is, length-set) was.3,
           )
     ]

@@ -9,11 +9,16 @@ use Rattle.halo_table.proofs.step.has_name.Goals as goal
 
 pub returns-then-eq : goal.returns-then-eq
 returns-then-eq c =
-    let at = name_at c.args.tables.now c.loop-table.table-index c.table-item.result c.args.name.now c.loop-table-test.true c.table-item.is in
+    let at =
+    name_at c.args.tables.now c.loop-table.table-index c.table-item.result c.args.name.now
+    c.loop-table-test.true c.table-item.is in
     let same = (bytes_eq-Decides c.bytes.result.now c.args.name.now).0 (sym c.if-eq.ensures) in (
       (λ _. (
         c.loop-table.table-index,
-        rw (length-map (map seen_table c.args.tables.now) (λ (t : DecrementTable). t.name), length-map c.args.tables.now seen_table) c.loop-table-test.true,
+        rw (
+          length-map (map seen_table c.args.tables.now) (λ (t : DecrementTable). t.name),
+          length-map c.args.tables.now seen_table,
+        ) c.loop-table-test.true,
         at ∙ sym c.bytes.ensures.same ∙ same,
       )),
       (λ _. refl),
@@ -21,6 +26,11 @@ returns-then-eq c =
 
 pub loop-table-preserved : goal.loop-table-preserved
 loop-table-preserved c =
-    let at = name_at c.args.tables.now c.loop-table.table-index c.table-item.result c.args.name.now c.loop-table-test.true c.table-item.is in
-    below_more (λ k. get_or (map (λ (t : DecrementTable). t.name) (map seen_table c.args.tables.now)) k c.args.name.now ≡ c.args.name.now → ⊥) c.loop-table.table-index c.loop-table.invariant
-    (λ h. cc (c.if-eq.ensures ∙ (bytes_eq-Decides c.bytes.result.now c.args.name.now).1 (c.bytes.ensures.same ∙ sym at ∙ h)))
+    let at =
+    name_at c.args.tables.now c.loop-table.table-index c.table-item.result c.args.name.now
+    c.loop-table-test.true c.table-item.is in
+    below_more (λ k. get_or (map (λ (t : DecrementTable). t.name)
+    (map seen_table c.args.tables.now)) k c.args.name.now ≡ c.args.name.now → ⊥)
+    c.loop-table.table-index c.loop-table.invariant
+    (λ h. cc (c.if-eq.ensures ∙ (bytes_eq-Decides c.bytes.result.now c.args.name.now).1
+    (c.bytes.ensures.same ∙ sym at ∙ h)))

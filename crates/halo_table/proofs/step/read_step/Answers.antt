@@ -14,7 +14,11 @@ returns-then-is_again c =
     let first = c.args.is_first_row in
     let last = fields_of c.args.last.now in
     let row = fields_of c.args.row.now in
-    first_of width names first last row kind.Again ((again_is width names first last row _ _ c.continues_table-continues.ensures c.if-is_again.ensures).0 refl) c.in_ok-numbers.ensures.0 (λ lt. absurd (omega arith)) (λ lt. absurd (omega arith)) (λ lt. absurd (omega arith)) (λ lt. absurd (omega arith))
+    first_of width names first last row kind.Again
+    ((again_is width names first last row _ _ c.continues_table-continues.ensures
+    c.if-is_again.ensures).0 refl) c.in_ok-numbers.ensures.0 (λ lt. absurd (omega arith))
+    (λ lt. absurd (omega arith)) (λ lt. absurd (omega arith))
+    (λ lt. absurd (omega arith))
 
 pub returns-then-is_one_more : goal.returns-then-is_one_more
 returns-then-is_one_more c =
@@ -23,8 +27,14 @@ returns-then-is_one_more c =
     let first = c.args.is_first_row in
     let last = fields_of c.args.last.now in
     let row = fields_of c.args.row.now in
-    let no_again : StepHolds width names first last row kind.Again → ⊥ = (λ o. cc ((again_is width names first last row _ _ c.continues_table-continues.ensures c.if-is_again.ensures).1 o)) in
-    first_of width names first last row kind.TooMany ((many_is width names first last row _ _ _ (count_of_names c.args.tables.now) c.continues_table-continues.ensures c.if-is_one_more.ensures).0 refl) c.in_ok-numbers.ensures.0 (λ _. no_again) (λ lt. absurd (omega arith)) (λ lt. absurd (omega arith)) (λ lt. absurd (omega arith))
+    let no_again : StepHolds width names first last row kind.Again → ⊥ =
+    (λ o. cc ((again_is width names first last row _ _ c.continues_table-continues.ensures
+    c.if-is_again.ensures).1 o)) in
+    first_of width names first last row kind.TooMany
+    ((many_is width names first last row _ _ _ (count_of_names c.args.tables.now)
+    c.continues_table-continues.ensures c.if-is_one_more.ensures).0 refl)
+    c.in_ok-numbers.ensures.0 (λ _. no_again) (λ lt. absurd (omega arith))
+    (λ lt. absurd (omega arith)) (λ lt. absurd (omega arith))
 
 pub returns-then-is_off_age : goal.returns-then-is_off_age
 returns-then-is_off_age c =
@@ -33,9 +43,18 @@ returns-then-is_off_age c =
     let first = c.args.is_first_row in
     let last = fields_of c.args.last.now in
     let row = fields_of c.args.row.now in
-    let no_again : StepHolds width names first last row kind.Again → ⊥ = (λ o. cc ((again_is width names first last row _ _ c.continues_table-continues.ensures c.if-is_again.ensures).1 o)) in
-    let no_many : StepHolds width names first last row kind.TooMany → ⊥ = (λ o. cc ((many_is width names first last row _ _ _ (count_of_names c.args.tables.now) c.continues_table-continues.ensures c.if-is_one_more.ensures).1 o)) in
-    first_of width names first last row kind.Age ((off_age_is width first last row c.in_ok-numbers.numbers.numbers c.args.before.now.numbers _ c.requires.low c.continues_table-continues.ensures c.in_ok-numbers.ensures.1.numbers (λ e. (c.requires.known e).numbers)).0 (c.if-is_off_age.ensures.0 refl)) c.in_ok-numbers.ensures.0 (λ _. no_again) (λ _. no_many) (λ lt. absurd (omega arith)) (λ lt. absurd (omega arith))
+    let no_again : StepHolds width names first last row kind.Again → ⊥ =
+    (λ o. cc ((again_is width names first last row _ _ c.continues_table-continues.ensures
+    c.if-is_again.ensures).1 o)) in
+    let no_many : StepHolds width names first last row kind.TooMany → ⊥ =
+    (λ o. cc ((many_is width names first last row _ _ _ (count_of_names c.args.tables.now)
+    c.continues_table-continues.ensures c.if-is_one_more.ensures).1 o)) in
+    first_of width names first last row kind.Age
+    ((off_age_is width first last row c.in_ok-numbers.numbers.numbers c.args.before.now.numbers
+    _ c.requires.low c.continues_table-continues.ensures c.in_ok-numbers.ensures.1.numbers
+    (λ e. (c.requires.known e).numbers)).0 (c.if-is_off_age.ensures.0 refl))
+    c.in_ok-numbers.ensures.0 (λ _. no_again) (λ _. no_many)
+    (λ lt. absurd (omega arith)) (λ lt. absurd (omega arith))
 
 pub returns-then-is_off : goal.returns-then-is_off
 returns-then-is_off c =
@@ -44,10 +63,24 @@ returns-then-is_off c =
     let first = c.args.is_first_row in
     let last = fields_of c.args.last.now in
     let row = fields_of c.args.row.now in
-    let no_again : StepHolds width names first last row kind.Again → ⊥ = (λ o. cc ((again_is width names first last row _ _ c.continues_table-continues.ensures c.if-is_again.ensures).1 o)) in
-    let no_many : StepHolds width names first last row kind.TooMany → ⊥ = (λ o. cc ((many_is width names first last row _ _ _ (count_of_names c.args.tables.now) c.continues_table-continues.ensures c.if-is_one_more.ensures).1 o)) in
-    let no_age : StepHolds width names first last row kind.Age → ⊥ = (λ o. cc (c.if-is_off_age.ensures.1 ((off_age_is width first last row c.in_ok-numbers.numbers.numbers c.args.before.now.numbers _ c.requires.low c.continues_table-continues.ensures c.in_ok-numbers.ensures.1.numbers (λ e. (c.requires.known e).numbers)).1 o))) in
-    first_of width names first last row kind.Decrements ((off_survivors_is width first last row c.in_ok-numbers.numbers.numbers c.args.before.now.numbers _ _ _ c.requires.low c.continues_table-continues.ensures c.in_ok-numbers.ensures.1.numbers c.in_ok-numbers.ensures.1.leaving (λ e. let k = c.requires.known e in (k.numbers, k.leaving))).0 (c.if-is_off.ensures.0 refl)) c.in_ok-numbers.ensures.0 (λ _. no_again) (λ _. no_many) (λ _. no_age) (λ lt. absurd (omega arith))
+    let no_again : StepHolds width names first last row kind.Again → ⊥ =
+    (λ o. cc ((again_is width names first last row _ _ c.continues_table-continues.ensures
+    c.if-is_again.ensures).1 o)) in
+    let no_many : StepHolds width names first last row kind.TooMany → ⊥ =
+    (λ o. cc ((many_is width names first last row _ _ _ (count_of_names c.args.tables.now)
+    c.continues_table-continues.ensures c.if-is_one_more.ensures).1 o)) in
+    let no_age : StepHolds width names first last row kind.Age → ⊥ =
+    (λ o. cc (c.if-is_off_age.ensures.1
+    ((off_age_is width first last row c.in_ok-numbers.numbers.numbers
+    c.args.before.now.numbers _ c.requires.low c.continues_table-continues.ensures
+    c.in_ok-numbers.ensures.1.numbers (λ e. (c.requires.known e).numbers)).1 o))) in
+    first_of width names first last row kind.Decrements
+    ((off_survivors_is width first last row c.in_ok-numbers.numbers.numbers
+    c.args.before.now.numbers _ _ _ c.requires.low c.continues_table-continues.ensures
+    c.in_ok-numbers.ensures.1.numbers c.in_ok-numbers.ensures.1.leaving
+    (λ e. let k = c.requires.known e in (k.numbers, k.leaving))).0
+    (c.if-is_off.ensures.0 refl)) c.in_ok-numbers.ensures.0 (λ _. no_again)
+    (λ _. no_many) (λ _. no_age) (λ lt. absurd (omega arith))
 
 pub returns : goal.returns
 returns c =
@@ -56,7 +89,22 @@ returns c =
     let first = c.args.is_first_row in
     let last = fields_of c.args.last.now in
     let row = fields_of c.args.row.now in
-    let no_again : StepHolds width names first last row kind.Again → ⊥ = (λ o. cc ((again_is width names first last row _ _ c.continues_table-continues.ensures c.if-is_again.ensures).1 o)) in
-    let no_many : StepHolds width names first last row kind.TooMany → ⊥ = (λ o. cc ((many_is width names first last row _ _ _ (count_of_names c.args.tables.now) c.continues_table-continues.ensures c.if-is_one_more.ensures).1 o)) in
-    let no_age : StepHolds width names first last row kind.Age → ⊥ = (λ o. cc (c.if-is_off_age.ensures.1 ((off_age_is width first last row c.in_ok-numbers.numbers.numbers c.args.before.now.numbers _ c.requires.low c.continues_table-continues.ensures c.in_ok-numbers.ensures.1.numbers (λ e. (c.requires.known e).numbers)).1 o))) in
-    (none_holds width names first last row c.in_ok-numbers.ensures.0 no_again no_many no_age (λ o. cc (c.if-is_off.ensures.1 ((off_survivors_is width first last row c.in_ok-numbers.numbers.numbers c.args.before.now.numbers _ _ _ c.requires.low c.continues_table-continues.ensures c.in_ok-numbers.ensures.1.numbers c.in_ok-numbers.ensures.1.leaving (λ e. let k = c.requires.known e in (k.numbers, k.leaving))).1 o))), c.in_ok-numbers.ensures.1)
+    let no_again : StepHolds width names first last row kind.Again → ⊥ =
+    (λ o. cc ((again_is width names first last row _ _ c.continues_table-continues.ensures
+    c.if-is_again.ensures).1 o)) in
+    let no_many : StepHolds width names first last row kind.TooMany → ⊥ =
+    (λ o. cc ((many_is width names first last row _ _ _ (count_of_names c.args.tables.now)
+    c.continues_table-continues.ensures c.if-is_one_more.ensures).1 o)) in
+    let no_age : StepHolds width names first last row kind.Age → ⊥ =
+    (λ o. cc (c.if-is_off_age.ensures.1
+    ((off_age_is width first last row c.in_ok-numbers.numbers.numbers
+    c.args.before.now.numbers _ c.requires.low c.continues_table-continues.ensures
+    c.in_ok-numbers.ensures.1.numbers (λ e. (c.requires.known e).numbers)).1 o))) in (
+      none_holds width names first last row c.in_ok-numbers.ensures.0 no_again no_many no_age
+          (λ o. cc (c.if-is_off.ensures.1 ((off_survivors_is width first last row
+          c.in_ok-numbers.numbers.numbers c.args.before.now.numbers _ _ _ c.requires.low
+          c.continues_table-continues.ensures c.in_ok-numbers.ensures.1.numbers
+          c.in_ok-numbers.ensures.1.leaving
+          (λ e. let k = c.requires.known e in (k.numbers, k.leaving))).1 o))),
+      c.in_ok-numbers.ensures.1,
+    )
