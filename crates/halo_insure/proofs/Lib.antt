@@ -7,6 +7,7 @@ pub mod Horizon
 pub mod Counted
 pub mod Total
 pub mod DueOfSet
+pub mod Idle
 pub mod Small
 pub mod Carried
 pub mod Tasks

@@ -68,7 +68,7 @@ back due sum r discount carry left start x rest q i add mul d c v =
 
 -- the widths of a year back: of what is due, of what is carried, and of the discount
 pub back-narrow : (due b w d : ℕ)
-    → 1 ≤ due + b → (due * d + (w * 1 + d * b + 1)) * 1 + 1 * (due + b) + 1 ≤ w + (d + 3) * (due + b)
+    → 1 ≤ due + b → (due * d + (w + d * b + 1)) * 1 + 1 * (due + b) + 1 ≤ w + (d + 3) * (due + b)
 back-narrow due b w d some = omega (arith, some)
 
 -- nothing due and nothing carried is exactly nothing
@@ -76,7 +76,7 @@ nothing-narrow : (r : Ends) (w : ℕ) → pos 0 ≤ℤ r.lo → r.hi ≤ℤ pos 
 nothing-narrow r w from bound = record { near = omega (arith, ints, from, bound) }
 
 pub year-narrow : (r : Ends) (due b w d : ℕ) → pos 0 ≤ℤ r.lo → r.hi ≤ℤ pos ((due + b) * fine)
-    → HasWidth r ((due * d + (w * 1 + d * b + 1)) * 1 + 1 * (due + b) + 1) → HasWidth r (w + (d + 3) * (due + b))
+    → HasWidth r ((due * d + (w + d * b + 1)) * 1 + 1 * (due + b) + 1) → HasWidth r (w + (d + 3) * (due + b))
 year-narrow r due b w d from bound h = ⊎_elim
     (λ none. let e : due + b ≡ 0 = omega arith in nothing-narrow r _ from (rw e at bound))
     (λ some. wider r _ _ (back-narrow due b w d some) h)

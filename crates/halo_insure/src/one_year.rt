@@ -1,5 +1,5 @@
 // A year of the recursion: from what is due after it to what is due from its start on.
-ghost use Rattle.std.specs.Prelude.{◌≡◌, ℕ, ◌+◌, ◌*◌, ◌^◌, ◌≤◌, pos, ◌≤ℤ◌};
+ghost use Rattle.std.specs.Prelude.{ℕ, ◌+◌, ◌*◌, ◌^◌, ◌≤◌, ℤ, pos, ◌*ℤ◌, ◌≤ℤ◌};
 ghost use Rattle.halo_num.specs.Ends.{HasWidth, IsWithin, fine};
 ghost use Rattle.halo_num.specs.Enclosure.{Encloses};
 ghost use Rattle.halo_insure.specs.OneSet.{GoesBack};
@@ -17,7 +17,7 @@ pub(crate) struct Chances {
     pub(crate) survival: Ival,
 }
 
-/// So many payments with a chance.
+/// So many payments with a chance. For none there is nothing to multiply.
 fn payments(chance: Ival, count: u32) -> Ival
     requires chance { IsWithin chance (pos 0) (pos fine) }
     ensures from { pos 0 ≤ℤ result.lo }
@@ -26,11 +26,15 @@ fn payments(chance: Ival, count: u32) -> Ival
     ensures narrow { (w : ℕ) → HasWidth chance w → HasWidth result (count * w) }
     ensures encloses { (n d : ℕ) → Encloses chance (pos n) d → Encloses result (pos (count * n)) d }
 {
+    if count == 0 {
+        return Ival::exact(0);
+    }
     let _lowest = chance.lo();
     chance.scale(i64::from(count))
 }
 
-/// What is due at the end of a year, on a leaving and on the end of a term.
+/// What is due at the end of a year, on a leaving and on the end of a term. In most years no term
+/// ends.
 fn due_in_year(chances: &Chances, due: Due) -> Ival
     requires leaving { IsWithin chances.now.leaving (pos 0) (pos fine) }
     requires survival { IsWithin chances.now.survival (pos 0) (pos fine) }
@@ -44,8 +48,31 @@ fn due_in_year(chances: &Chances, due: Due) -> Ival
         Encloses result (pos (due.on_leaving * left + due.at_end * alive)) start }
 {
     let on_leaving = payments(chances.leaving, due.on_leaving);
+    if due.at_end == 0 {
+        return on_leaving;
+    }
     let at_end = payments(chances.survival, due.at_end);
     on_leaving.add(at_end)
+}
+
+/// What comes later, if all of a set survive the year. Where nothing comes later there is nothing to
+/// multiply.
+fn if_all_survive<L: Ledger>(later: Ival, survival: Ival, steps: &mut Steps<L>) -> Ival
+    requires later { IsWithin later (pos 0) (pos (10 ^ 32)) }
+    requires survival { IsWithin survival (pos 0) (pos fine) }
+    ensures order { later.lo ≤ℤ later.hi }
+    ensures from { pos 0 ≤ℤ result.lo }
+    ensures bound { (m : ℕ) → later.hi ≤ℤ pos (m * fine) → result.hi ≤ℤ pos (m * fine) }
+    ensures narrow { (m u e : ℕ) → later.hi ≤ℤ pos (m * fine) →
+        HasWidth later u → HasWidth survival e → HasWidth result (u + e * m + 1) }
+    ensures encloses { (n m : ℤ) (d e : ℕ) → Encloses later n d → Encloses survival m e →
+        Encloses result (n *ℤ m) (d * e) }
+    ensures cost { steps.new ≤ steps.old + 1 }
+{
+    if later.hi() <= 0 {
+        return Ival::exact(0);
+    }
+    later.mul(survival, steps)
 }
 
 /// The value at the start of a year of what is due at its end and of what comes `later`, which is
@@ -84,10 +111,9 @@ fn due_and_later<L: Ledger>(
     requires discount { IsWithin discount (pos 0) (pos fine) }
     requires later { IsWithin later (pos 0) (pos (10 ^ 32)) }
     ensures back { GoesBack later chances.now.leaving chances.now.survival discount due result }
-    ensures cost { steps.new ≡ steps.old + 2 }
+    ensures cost { steps.new ≤ steps.old + 2 }
 {
-    let _lowest = later.lo();
     let due = due_in_year(chances, due);
-    let carried = later.mul(chances.survival, steps);
+    let carried = if_all_survive(later, chances.survival, steps);
     due.add(carried).mul(discount, steps)
 }

@@ -1,5 +1,5 @@
 // A year back for the sets of named lives.
-ghost use Rattle.std.specs.Prelude.{◌≡◌, ◌≢◌, ℕ, ◌+◌, ◌*◌, ◌<◌, ◌≤◌, cond, true, pos};
+ghost use Rattle.std.specs.Prelude.{◌≡◌, ◌≢◌, ℕ, ◌+◌, ◌*◌, ◌<◌, ◌≤◌, ◌↔◌, IsTrue, cond, true, pos};
 ghost use Rattle.halo_num.specs.Ends.{IsSized, IsWithin, fine};
 ghost use Rattle.halo_model.specs.Backward.{above_zero, below_zero};
 ghost use Rattle.halo_poly.specs.Poly.{coefficient_at};
@@ -57,7 +57,19 @@ fn next_coefficient<const M: usize>(year: &Year<M>, set: u16) -> i64
     }
 }
 
+/// Whether both values of a set are exactly 0.
+fn is_worthless<const M: usize>(work: &Work<M>, set: u16) -> bool
+    requires set { set < M }
+    requires modest { AreModestAt set work.now }
+    ensures { IsTrue result ↔ ((entry work.now.plus set ≡ nothing)
+        × (entry work.now.minus set ≡ nothing)) }
+{
+    work.plus(set).hi() <= 0 && work.minus(set).hi() <= 0
+}
+
 /// Carries the values of a set back by a year.
+///
+/// Many a set has no coefficient at any time, and so no value to be carried.
 fn set_back<const M: usize, L: Ledger>(
     work: &mut Work<M>,
     year: &Year<M>,
@@ -85,6 +97,9 @@ fn set_back<const M: usize, L: Ledger>(
 {
     let here = year.here.coefficient(set);
     let next = next_coefficient(year, set);
+    if here == 0 && next == 0 && is_worthless(work, set) {
+        return;
+    }
     let chances = Chances {
         leaving: work.leaving(set),
         survival: work.at(set),

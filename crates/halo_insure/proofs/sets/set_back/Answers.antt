@@ -1,7 +1,32 @@
-use Rattle.std.proofs.Common.{◌≡◌, rules, to_z, of_z, to_z-of_z, w64}
+use Rattle.std.proofs.Common.{◌≡◌, ◌∙◌, pos, refl, rules, sym, to_z, of_z, to_z-of_z, w64}
 use Rattle.halo_model.specs.Backward.{above_zero, below_zero}
+use Rattle.halo_poly.specs.Poly.{coefficient_at}
+use Rattle.halo_insure.specs.YearSets.{next_coefficient}
 use Rattle.halo_insure.proofs.DueOfSet.{due-is}
+use Rattle.halo_insure.proofs.Idle.{nothing-stays, zero-of-bits}
 use Rattle.halo_insure.proofs.sets.set_back.Goals as goal
+
+pub returns-then-is_worthless-clause-plus : goal.returns-then-is_worthless-clause-plus
+returns-then-is_worthless-clause-plus g c =
+    let here : coefficient_at c.args.year.now.here.now c.args.set ≡ pos 0 =
+    sym c.coefficient-here.ensures.value
+    ∙ zero-of-bits c.coefficient-here.result (search (rules, to_z-of_z)) c.if-here-eq0.true in
+    let next : next_coefficient c.args.year.now c.args.set ≡ pos 0 =
+    sym c.next_coefficient-next.ensures.value
+    ∙ zero-of-bits c.next_coefficient-next.result (search (rules, to_z-of_z)) c.if-next-eq0.true in
+    rw (here, next, (c.is_worthless.ensures.0 c.if-is_worthless.true).0)
+    (nothing-stays above_zero c.args.year.now.pays.payment c.args.year.now.pays.ends _ _ c.args.year.now.discount refl)
+
+pub returns-then-is_worthless-clause-minus : goal.returns-then-is_worthless-clause-minus
+returns-then-is_worthless-clause-minus g c =
+    let here : coefficient_at c.args.year.now.here.now c.args.set ≡ pos 0 =
+    sym c.coefficient-here.ensures.value
+    ∙ zero-of-bits c.coefficient-here.result (search (rules, to_z-of_z)) c.if-here-eq0.true in
+    let next : next_coefficient c.args.year.now c.args.set ≡ pos 0 =
+    sym c.next_coefficient-next.ensures.value
+    ∙ zero-of-bits c.next_coefficient-next.result (search (rules, to_z-of_z)) c.if-next-eq0.true in
+    rw (here, next, (c.is_worthless.ensures.0 c.if-is_worthless.true).1)
+    (nothing-stays below_zero c.args.year.now.pays.payment c.args.year.now.pays.ends _ _ c.args.year.now.discount refl)
 
 pub returns-clause-plus : goal.returns-clause-plus
 returns-clause-plus g c =
