@@ -1,6 +1,7 @@
 pub mod AlongTree
 pub mod Carrying
 pub mod Carried
+pub mod Discounted
 pub mod Counting
 pub mod Survivors
 pub mod Totals

@@ -81,7 +81,7 @@ fn carry_sets<const M: usize, L: Ledger>(
 }
 
 // Carries both values of a set back by a year: by its discount factor, and by the chance of the set
-// to survive it.
+// to survive it. Where both are 0, as those of a set without coefficient, no product is made.
 fn carry_set<const M: usize, L: Ledger>(
     work: &mut Work<M>,
     set: u16,
@@ -102,9 +102,17 @@ fn carry_set<const M: usize, L: Ledger>(
     ensures survivals { work.new.survivals ≡ work.old.survivals }
     ensures cost { steps.new ≤ steps.old + 3 }
 {
-    let chance = discount.mul(work.at(set), steps);
-    let plus = carried(work.plus(set), chance, steps);
-    let minus = carried(work.minus(set), chance, steps);
+    let plus = work.plus(set);
+    let minus = work.minus(set);
+    let survival = work.at(set);
+    // The proof sees here that the ends of both factors are in order.
+    let _lowest = (discount.lo(), survival.lo());
+    if plus.hi() <= 0 && minus.hi() <= 0 {
+        return;
+    }
+    let chance = discount.mul(survival, steps);
+    let plus = carried(plus, chance, steps);
+    let minus = carried(minus, chance, steps);
     work.put(set, plus, minus);
 }
 
