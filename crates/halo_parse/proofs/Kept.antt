@@ -6,13 +6,13 @@ use Rattle.std.proofs.lemmas.List.Elements.{All-nil, All-push}
 use Rattle.std.proofs.lemmas.List.Sums.{sum_by_push}
 use Rattle.halo_status.specs.Pay.{PlainPay}
 use Rattle.halo_table.specs.DecrementTable.{TableFile, names_of, HasRow}
-use Rattle.halo_parse.specs.Addition.{IsKept}
-use Rattle.halo_parse.specs.Checks.{PassesAll}
-use Rattle.halo_parse.specs.Draft.{Draft, empty_draft, pay_written, place_of, with_line}
+use Rattle.halo_check.specs.Addition.{IsKept}
+use Rattle.halo_check.specs.Checks.{PassesAll}
+use Rattle.halo_check.specs.Draft.{Draft, empty_draft, pay_written, place_of, with_line}
 use Rattle.halo_contract.specs.PlainContract.{life_names}
-use Rattle.halo_parse.specs.Line.{Line, interest, life, ties, pay, premium, reserve}
+use Rattle.halo_syntax.specs.Line.{Line, interest, life, ties, pay, premium, reserve}
 use Rattle.halo_contract.specs.declared.contract.LifeLine.{LifeLine}
-use Rattle.halo_parse.specs.declared.fault.ContractKind.TheVariants as kind
+use Rattle.halo_check.specs.declared.fault.ContractKind.TheVariants as kind
 use Rattle.halo_text.specs.Number.{number}
 
 pub kept_at_first : (tables : TableFile) → IsKept tables empty_draft

@@ -4,11 +4,11 @@ use Rattle.std.proofs.lemmas.List.{get_or_at, length-map, length_push, map-appen
 use Rattle.halo_text.specs.Number.{number}
 use Rattle.halo_interest.specs.Rates.{CanFollow, IsFraction, no_interest, rate_at}
 use Rattle.halo_interest.specs.declared.rate.Rate.{Rate}
-use Rattle.halo_parse.specs.Checks.{YearsRise}
-use Rattle.halo_parse.specs.Draft.{rate_from}
-use Rattle.halo_parse.specs.LineView.{plain_rate}
-use Rattle.halo_parse.specs.declared.line.LaterRate.{LaterRate}
-use Rattle.halo_parse.proofs.Years.{no_rate, year_here}
+use Rattle.halo_check.specs.Checks.{YearsRise}
+use Rattle.halo_check.specs.Draft.{rate_from}
+use Rattle.halo_syntax.specs.LineView.{plain_rate}
+use Rattle.halo_syntax.specs.declared.line.LaterRate.{LaterRate}
+use Rattle.halo_check.proofs.Years.{no_rate, year_here}
 
 -- the fraction of a later rate
 abbrev pub fraction_of : LaterRate → Rate

@@ -6,10 +6,10 @@ use Rattle.halo_status.specs.ValidPay.{HasLength}
 use Rattle.halo_symbol.specs.StatusOf.{tree_of_body, tree_of_content, tree_of_list, tree_of_node, trees_of_members}
 use Rattle.halo_symbol.specs.Symbol.{Mark}
 use Rattle.halo_symbol.specs.Tree.{Node, life, term, last, at_least, exactly, group, Members, one, and, Body, list, reversion}
-use Rattle.halo_parse.specs.Checks.{HasYears}
-use Rattle.halo_parse.specs.Limits.{IsBodyWithin, IsListWithin, IsMemberWithin}
-use Rattle.halo_parse.specs.Parts as parts
-use Rattle.halo_parse.specs.Parts.{AtEach, AtEachMember, AtEachOfBody}
+use Rattle.halo_check.specs.Checks.{HasYears}
+use Rattle.halo_check.specs.Limits.{IsBodyWithin, IsListWithin, IsMemberWithin}
+use Rattle.halo_check.specs.Parts as parts
+use Rattle.halo_check.specs.Parts.{AtEach, AtEachMember, AtEachOfBody}
 
 module _ (life_of : List ℕ → ℕ) where
   mutual

@@ -2,7 +2,7 @@
 use Rattle.std.proofs.Common.{◌≤◌, ◌+◌, ℕ, Bool, true, false, List, [], ◌∷◌, bytes_eq, cond, drop, length, take, arith}
 use Rattle.std.specs.List.{onto_first, slice_split}
 use Rattle.std.proofs.lemmas.List.{length-drop, length-map}
-use Rattle.halo_parse.specs.FileLines.{byte_order_mark, is_line_feed, lines_of, without_empty_end, without_mark, without_return}
+use Rattle.halo_syntax.specs.FileLines.{byte_order_mark, is_line_feed, lines_of, without_empty_end, without_mark, without_return}
 
 pieces_few : (p : ℕ → Bool) (xs : List ℕ) → length (slice_split p xs) ≤ length xs + 1
 pieces_few p [] = omega arith

@@ -5,8 +5,8 @@ use Rattle.std.proofs.lemmas.List.{get_or-map, length-map}
 use Rattle.halo_sums.specs.Masks.{has_bit}
 use Rattle.halo_sums.proofs.SetMasks.{has_bit-mask_of, mask_of-lt}
 use Rattle.halo_symbol.specs.Symbol.{Names}
-use Rattle.halo_parse.specs.Draft.{all_names, causes_of, is_among, mask_of_names}
-use Rattle.halo_parse.proofs.AmongNames.{among-Contains}
+use Rattle.halo_check.specs.Draft.{all_names, causes_of, is_among, mask_of_names}
+use Rattle.halo_check.proofs.AmongNames.{among-Contains}
 
 pub mask_of_names-lt : (all names : List (List ℕ)) → mask_of_names all names < 2 ^ length all
 mask_of_names-lt all names =

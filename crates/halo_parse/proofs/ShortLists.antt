@@ -7,8 +7,8 @@ use Rattle.halo_status.specs.Tree as status
 use Rattle.halo_symbol.specs.StatusOf.{tree_of_body, tree_of_content, tree_of_list, tree_of_node, tree_of_symbol, trees_of_members}
 use Rattle.halo_symbol.specs.Symbol.{Mark, Symbol}
 use Rattle.halo_symbol.specs.Tree.{Node, life, term, last, at_least, exactly, group, Members, one, and, Body, list, reversion, member_count}
-use Rattle.halo_parse.specs.Limits.{IsBodyWithin, IsListWithin, IsMemberWithin, IsStatusWithin, IsSymbolWithin}
-use Rattle.halo_parse.specs.Parts.{AtEach, AtEachMember, AtEachOfBody}
+use Rattle.halo_check.specs.Limits.{IsBodyWithin, IsListWithin, IsMemberWithin, IsStatusWithin, IsSymbolWithin}
+use Rattle.halo_check.specs.Parts.{AtEach, AtEachMember, AtEachOfBody}
 
 -- a status has as many members as its list
 pub member_count-trees : (f : List ℕ → ℕ) (ms : Members) → status.member_count (trees_of_members f ms) ≡ member_count ms

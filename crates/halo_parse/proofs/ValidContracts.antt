@@ -12,17 +12,17 @@ use Rattle.halo_interest.specs.declared.rate.Rate.{Rate}
 use Rattle.halo_status.specs.Pay.{PlainPay}
 use Rattle.halo_table.specs.DecrementTable.{TableFile, names_of}
 use Rattle.halo_text.specs.Number.{number}
-use Rattle.halo_parse.specs.Addition.{IsKept}
-use Rattle.halo_parse.specs.Checks.{PassesAll}
+use Rattle.halo_check.specs.Addition.{IsKept}
+use Rattle.halo_check.specs.Checks.{PassesAll}
 use Rattle.halo_parse.specs.ContractLaws.{ContractsAreValid}
-use Rattle.halo_parse.specs.Draft.{Draft, contract_made, empty_draft, mask_of_names, pay_written, place_of, with_line}
+use Rattle.halo_check.specs.Draft.{Draft, contract_made, empty_draft, mask_of_names, pay_written, place_of, with_line}
 use Rattle.halo_parse.specs.Faults.{IsWhole, MakesDraft}
-use Rattle.halo_parse.specs.FileLines.{lines_of}
-use Rattle.halo_parse.specs.Forms.{IsInOrder}
-use Rattle.halo_parse.specs.Line.{Line, interest, life, ties, pay, premium, reserve}
-use Rattle.halo_parse.specs.ProperLine.{IsProperLine}
-use Rattle.halo_parse.specs.declared.fault.ContractKind.TheVariants as kind
-use Rattle.halo_parse.specs.declared.form.Form.TheVariants as form
+use Rattle.halo_syntax.specs.FileLines.{lines_of}
+use Rattle.halo_check.specs.FormOrder.{IsInOrder}
+use Rattle.halo_syntax.specs.Line.{Line, interest, life, ties, pay, premium, reserve}
+use Rattle.halo_syntax.specs.ProperLine.{IsProperLine}
+use Rattle.halo_check.specs.declared.fault.ContractKind.TheVariants as kind
+use Rattle.halo_syntax.specs.declared.form.Form.TheVariants as form
 use Rattle.halo_parse.proofs.Kept.{kept_at_first, kept_by_line}
 use Rattle.halo_parse.proofs.ValidInterest.{valid_interest}
 use Rattle.halo_parse.proofs.ValidPays.{pays_are_valid, premiums_are_valid}

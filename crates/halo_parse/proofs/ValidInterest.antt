@@ -5,10 +5,10 @@ use Rattle.halo_interest.specs.Rates.{IsFraction, IsInterest, no_interest, rate_
 use Rattle.halo_interest.specs.declared.rate.Rate.{Rate}
 use Rattle.halo_table.specs.DecrementTable.{TableFile}
 use Rattle.halo_text.specs.Number.{number}
-use Rattle.halo_parse.specs.Checks.{PassesAll, year_at}
-use Rattle.halo_parse.specs.Draft.{Draft, rate_from}
-use Rattle.halo_parse.specs.Line.{LaterRate, interest}
-use Rattle.halo_parse.specs.declared.fault.ContractKind.TheVariants as kind
+use Rattle.halo_check.specs.Checks.{PassesAll, year_at}
+use Rattle.halo_check.specs.Draft.{Draft, rate_from}
+use Rattle.halo_syntax.specs.Line.{LaterRate, interest}
+use Rattle.halo_check.specs.declared.fault.ContractKind.TheVariants as kind
 
 -- no digits, as they stand past the last fraction
 no_digits : LaterRate

@@ -13,17 +13,17 @@ use Rattle.halo_symbol.specs.StatusOf.{tree_of_content}
 use Rattle.halo_symbol.specs.Symbol.{Mark, Names, Vary, level, increasing, decreasing}
 use Rattle.halo_symbol.specs.Tree.{Body, list, reversion}
 use Rattle.halo_text.specs.Number.{number}
-use Rattle.halo_parse.specs.Checks.{FallsFromSome, OfMembers}
+use Rattle.halo_check.specs.Checks.{FallsFromSome, OfMembers}
 use Rattle.halo_parse.specs.ContractLaws.{PaysAreValid, PremiumsAreValid}
 use Rattle.halo_sums.specs.SetMasks.{mask_of}
-use Rattle.halo_parse.specs.Draft.{all_names, causes_of, defer_of, is_among, mark_of, mask_of_names, place_of, vary_of}
+use Rattle.halo_check.specs.Draft.{all_names, causes_of, defer_of, is_among, mark_of, mask_of_names, place_of, vary_of}
 use Rattle.halo_contract.specs.PlainContract.{life_names}
-use Rattle.halo_parse.specs.Limits.{any_life, IsUpTo, IsVaryWithin}
-use Rattle.halo_parse.specs.declared.fault.ContractKind.TheVariants as kind
+use Rattle.halo_check.specs.Limits.{any_life, IsUpTo, IsVaryWithin}
+use Rattle.halo_check.specs.declared.fault.ContractKind.TheVariants as kind
 use Rattle.halo_parse.proofs.Lengths.{lengths-body, lengths-content}
-use Rattle.halo_parse.proofs.LivesPlaced.{placed-body, placed-content}
+use Rattle.halo_check.proofs.LivesPlaced.{placed-body, placed-content}
 use Rattle.halo_parse.proofs.MasksOfNames.{causes_of-lt}
-use Rattle.halo_parse.proofs.Nodes.{nodes-tree_of_body, nodes-tree_of_symbol}
+use Rattle.halo_check.proofs.Nodes.{nodes-tree_of_body, nodes-tree_of_symbol}
 use Rattle.halo_parse.proofs.ShortLists.{member_count-trees, short_lists-status, short_lists-symbol}
 
 valid_defer : (defer : Option (List ℕ)) → IfSome defer (IsUpTo 200) → defer_of defer ≤ 200

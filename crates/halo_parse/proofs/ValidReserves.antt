@@ -7,11 +7,11 @@ use Rattle.halo_contract.specs.ValidContract.{CanBeAlive, IsValidReserve}
 use Rattle.halo_contract.specs.declared.contract.LifeLine.{LifeLine}
 use Rattle.halo_table.specs.DecrementTable.{HasRow, TableFile, last_age_of}
 use Rattle.halo_text.specs.Number.{number}
-use Rattle.halo_parse.specs.Addition.{IsKept}
-use Rattle.halo_parse.specs.Checks.{PassesAll}
-use Rattle.halo_parse.specs.Draft.{Draft, mask_of_names}
-use Rattle.halo_parse.specs.Line.{reserve}
-use Rattle.halo_parse.specs.declared.fault.ContractKind.TheVariants as kind
+use Rattle.halo_check.specs.Addition.{IsKept}
+use Rattle.halo_check.specs.Checks.{PassesAll}
+use Rattle.halo_check.specs.Draft.{Draft, mask_of_names}
+use Rattle.halo_syntax.specs.Line.{reserve}
+use Rattle.halo_check.specs.declared.fault.ContractKind.TheVariants as kind
 use Rattle.halo_parse.proofs.MasksOfNames.{among_of_bit, mask_of_names-lt}
 
 -- a life with a row at its age has one at each later age up to its table's last

@@ -1,12 +1,12 @@
 -- A walk over the lines of a file: what is left completes the whole.
 use Rattle.std.proofs.Common.{◌≡◌, ◌+◌, ℕ, List, [], ◌∷◌, inl, inr, length, refl, subst, sym, arith}
 use Rattle.halo_table.specs.DecrementTable.{TableFile}
-use Rattle.halo_parse.specs.Addition.{IsKept}
-use Rattle.halo_parse.specs.Draft.{Draft, empty_draft}
+use Rattle.halo_check.specs.Addition.{IsKept}
+use Rattle.halo_check.specs.Draft.{Draft, empty_draft}
 use Rattle.halo_parse.specs.Faults.{FirstFaultOf, HasFault, MakesDraft}
-use Rattle.halo_parse.specs.FileLines.{lines_of}
+use Rattle.halo_syntax.specs.FileLines.{lines_of}
 use Rattle.halo_parse.specs.Reading.{TakesText}
-use Rattle.halo_parse.specs.declared.fault.ContractKind.{ContractKind}
+use Rattle.halo_check.specs.declared.fault.ContractKind.{ContractKind}
 
 -- the lines before those that are left have made a draft without fault
 pub record Walks (tables : TableFile) (bytes : List ℕ) (d : Draft) (number : ℕ) (left : List (List ℕ)) : Type 0 where

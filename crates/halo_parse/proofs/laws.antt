@@ -1,7 +1,2 @@
-pub mod CheckOrder
 pub mod OneFault
-pub mod Deciding
-pub mod DecidingParts
-pub mod DecidingStatuses
-pub mod DecidingChecks
 pub mod FileChoices

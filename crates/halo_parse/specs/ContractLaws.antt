@@ -6,11 +6,11 @@ use Rattle.halo_table.specs.DecrementTable.{TableFile}
 use Rattle.halo_contract.specs.PlainContract.{PlainContract, life_names}
 use Rattle.halo_contract.specs.Premium.{premium_pay}
 use Rattle.halo_contract.specs.ValidContract.{IsValidAmong, IsValidContract, IsValidPremium}
-use Rattle.halo_parse.specs.Checks.{PassesAll, status_tree}
-use Rattle.halo_parse.specs.Draft.{Draft, pay_written}
+use Rattle.halo_check.specs.Checks.{PassesAll, status_tree}
+use Rattle.halo_check.specs.Draft.{Draft, pay_written}
 use Rattle.halo_parse.specs.Faults.{WritesContract}
-use Rattle.halo_parse.specs.Line.{pay, premium}
-use Rattle.halo_parse.specs.ProperLine.{IsProperLine}
+use Rattle.halo_syntax.specs.Line.{pay, premium}
+use Rattle.halo_syntax.specs.ProperLine.{IsProperLine}
 
 -- a pay line that passes all checks adds a pay that is valid with the lives before it
 abbrev pub PaysAreValid : Type 0

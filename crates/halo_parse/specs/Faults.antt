@@ -1,19 +1,15 @@
 -- The first faulty line of a contract file, and the contract of a file without fault.
-use Rattle.std.specs.Prelude.{◌≡◌, ◌≢◌, ℕ, None, ◌+◌, ◌<◌, ◌⊎◌, List, [], ◌∷◌, false, length, true}
+use Rattle.std.specs.Prelude.{◌≡◌, ◌≢◌, ℕ, None, ◌+◌, ◌<◌, ◌⊎◌, List, [], ◌∷◌, false, length}
 use Rattle.halo_table.specs.DecrementTable.{TableFile}
-use Rattle.halo_parse.specs.Checks.{FailsFirst, PassesAll}
-use Rattle.halo_parse.specs.Depth.{IsShallow}
+use Rattle.halo_check.specs.Checks.{FailsFirst, PassesAll}
+use Rattle.halo_syntax.specs.Depth.{IsShallow}
 use Rattle.halo_contract.specs.PlainContract.{PlainContract}
-use Rattle.halo_parse.specs.Draft.{Draft, contract_made, empty_draft, with_line}
-use Rattle.halo_parse.specs.FileLines.{is_silent, lines_of, words_of}
-use Rattle.halo_parse.specs.Line.{Line}
-use Rattle.halo_parse.specs.ProperLine.{SpellsLine}
-use Rattle.halo_parse.specs.declared.fault.ContractKind.{ContractKind}
-use Rattle.halo_parse.specs.declared.fault.ContractKind.TheVariants as kind
-
--- a line that says nothing
-abbrev pub IsSilent : List ℕ → Type 0
-IsSilent text = is_silent (words_of text) ≡ true
+use Rattle.halo_check.specs.Draft.{Draft, contract_made, empty_draft, with_line}
+use Rattle.halo_syntax.specs.FileLines.{IsSilent, is_silent, lines_of, words_of}
+use Rattle.halo_syntax.specs.Line.{Line}
+use Rattle.halo_syntax.specs.ProperLine.{SpellsLine}
+use Rattle.halo_check.specs.declared.fault.ContractKind.{ContractKind}
+use Rattle.halo_check.specs.declared.fault.ContractKind.TheVariants as kind
 
 -- the text says something, and its round brackets do not open too far
 pub record IsReadable (text : List ℕ) : Type 0 where

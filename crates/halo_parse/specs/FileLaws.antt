@@ -3,7 +3,7 @@ use Rattle.std.specs.Prelude.{◌≡◌, ◌⊎◌, ℕ, List}
 use Rattle.halo_table.specs.DecrementTable.{TableFile}
 use Rattle.halo_contract.specs.PlainContract.{PlainContract}
 use Rattle.halo_parse.specs.Faults.{IsContractFault, WritesContract}
-use Rattle.halo_parse.specs.declared.fault.ContractKind.{ContractKind}
+use Rattle.halo_check.specs.declared.fault.ContractKind.{ContractKind}
 
 -- a file writes at most one contract
 abbrev pub ContractIsOne : Type 0

@@ -1,27 +1,16 @@
 -- What the functions answer that read the lines of a contract file.
-use Rattle.std.specs.Prelude.{◌≡◌, ◌<◌, ◌⊎◌, ℕ, List, Result, Ok, Err, ⊤}
+use Rattle.std.specs.Prelude.{◌≡◌, ◌⊎◌, ℕ, List, Result, Ok, Err, ⊤}
 use Rattle.halo_table.specs.DecrementTable.{TableFile}
-use Rattle.halo_parse.specs.Checks.{FailsFirst, Passes, place_of_check}
-use Rattle.halo_parse.specs.Draft.{Draft, with_line}
-use Rattle.halo_parse.specs.Faults.{HasFault, IsContractFault, IsFine, IsSilent, WritesContract}
-use Rattle.halo_parse.specs.Line.{Line}
+use Rattle.halo_check.specs.Draft.{Draft, with_line}
+use Rattle.halo_parse.specs.Faults.{HasFault, IsContractFault, IsFine, WritesContract}
+use Rattle.halo_syntax.specs.FileLines.{IsSilent}
+use Rattle.halo_syntax.specs.Line.{Line}
 use Rattle.halo_contract.specs.declared.contract.Contract.{Contract}
-use Rattle.halo_parse.specs.declared.error.LineError.{LineError}
-use Rattle.halo_parse.specs.declared.error.LineError.TheVariants as error
+use Rattle.halo_check.specs.declared.error.LineError.{LineError}
+use Rattle.halo_check.specs.declared.error.LineError.TheVariants as error
 use Rattle.halo_parse.specs.declared.fault.ContractError.{ContractError}
 use Rattle.halo_parse.specs.declared.fault.ContractError.TheVariants as told
-use Rattle.halo_parse.specs.declared.fault.ContractKind.{ContractKind}
 use Rattle.halo_contract.specs.PlainContract.{contract_of}
-
--- a line passes the checks before this one
-abbrev pub PassesBefore : TableFile → Draft → Line → ContractKind → Type 0
-PassesBefore tables d l k = (j : ContractKind)
-    → place_of_check j < place_of_check k → Passes tables d l j
-
--- an error tells the first check that a line does not pass; want of memory tells nothing
-abbrev pub FailsWith : TableFile → Draft → Line → LineError → Type 0
-FailsWith tables d l (error.Fault k) = FailsFirst tables d l k
-FailsWith tables d l error.Memory = ⊤
 
 -- an error tells the first fault of a text, behind the lines that have made a draft; want of memory
 -- tells nothing

@@ -3,9 +3,9 @@ use Rattle.std.specs.Prelude.{List, ℕ, ⊤}
 use Rattle.halo_symbol.specs.Proper.{AreProper, IsProper, IsProperBody, IsProperSymbol}
 use Rattle.halo_symbol.specs.Symbol.{Symbol}
 use Rattle.halo_symbol.specs.Tree.{Node, Members, Body}
-use Rattle.halo_parse.specs.Checks.{IsDeclared}
-use Rattle.halo_parse.specs.Limits.{IsBodyWithin, IsListWithin, IsMemberWithin, IsSymbolWithin}
-use Rattle.halo_parse.specs.Parts.{AtEach, AtEachMember, AtEachNode}
+use Rattle.halo_check.specs.Checks.{IsDeclared}
+use Rattle.halo_check.specs.Limits.{IsBodyWithin, IsListWithin, IsMemberWithin, IsSymbolWithin}
+use Rattle.halo_check.specs.Parts.{AtEach, AtEachMember, AtEachNode}
 
 -- a member is proper, its parts are within their limits, and the lives that it names are among
 -- these

@@ -3,11 +3,11 @@ use Rattle.std.specs.Prelude.{◌≡◌, ℕ, ◌^◌, ◌<◌, ◌≤◌, ◌�
 use Rattle.halo_interest.specs.Rates.{level}
 use Rattle.halo_interest.specs.declared.rate.Rate.{Rate}
 use Rattle.halo_text.specs.Number.{IsNumber, number}
-use Rattle.halo_parse.specs.Checks.{IsSome}
-use Rattle.halo_parse.specs.Limits.{IsUpTo}
-use Rattle.halo_parse.specs.LineReading.{IsFraction, NoFraction}
-use Rattle.halo_parse.specs.declared.fault.ContractKind.{ContractKind}
-use Rattle.halo_parse.specs.declared.fault.ContractKind.TheVariants as kind
+use Rattle.halo_check.specs.Checks.{IsSome}
+use Rattle.halo_check.specs.Limits.{IsUpTo}
+use Rattle.halo_syntax.specs.LineReading.{IsFraction, NoFraction}
+use Rattle.halo_check.specs.declared.fault.ContractKind.{ContractKind}
+use Rattle.halo_check.specs.declared.fault.ContractKind.TheVariants as kind
 
 -- what reading a number answers: the number where it is at most the limit, and else the fault of
 -- the word

@@ -1,25 +1,21 @@
 // One line of a file, and what it adds to a contract.
 ghost use Rattle.std.specs.Prelude.{◌≡◌, IfErr, IfOk, IfSome, MatchOption, OnOk};
 ghost use Rattle.halo_table.specs.DecrementTable.{TableFile};
-ghost use Rattle.halo_parse.specs.Addition.{IsKept};
-ghost use Rattle.halo_parse.specs.Checks.{PassesAll};
-ghost use Rattle.halo_parse.specs.Draft.{Draft as PlainDraft, with_line};
-ghost use Rattle.halo_parse.specs.Faults.{IsReadable, IsSilent};
-ghost use Rattle.halo_parse.specs.FileLines.{words_of};
-ghost use Rattle.halo_parse.specs.LineView.{draft_of, plain_line};
-ghost use Rattle.halo_parse.specs.ProperLine.{IsProperLine, SpellsLine};
-ghost use Rattle.halo_parse.specs.Reading.{FailsWith, IsToldOf, TakesText};
+ghost use Rattle.halo_check.specs.Addition.{IsKept};
+ghost use Rattle.halo_check.specs.Checks.{PassesAll};
+ghost use Rattle.halo_check.specs.Draft.{Draft as PlainDraft, with_line};
+ghost use Rattle.halo_parse.specs.Faults.{IsReadable};
+ghost use Rattle.halo_syntax.specs.FileLines.{IsSilent, words_of};
+ghost use Rattle.halo_syntax.specs.LineView.{plain_line};
+ghost use Rattle.halo_check.specs.DraftView.{draft_of};
+ghost use Rattle.halo_syntax.specs.ProperLine.{IsProperLine, SpellsLine};
+ghost use Rattle.halo_parse.specs.Reading.{IsToldOf, TakesText};
+ghost use Rattle.halo_check.specs.Checked.{FailsWith};
 
-use crate::addition::addition_from;
-use crate::depth::is_shallow;
-use crate::draft::Draft;
-use crate::error::LineError;
-use crate::fault::ContractKind;
-use crate::first_failed::check_writing;
-use crate::line::Line;
-use crate::read_line::read_line;
-use crate::statuses::check_statuses;
+use crate::addition_from::addition_from;
+use halo_check::{ContractKind, Draft, LineError, check_statuses, check_writing};
 use halo_symbol::WordError;
+use halo_syntax::{Line, is_shallow, read_line};
 use halo_table::Tables;
 use std::alloc::Global;
 

@@ -1,10 +1,9 @@
 // Words that stand by themselves: a fraction of interest, and a number within a limit.
 ghost use Rattle.halo_parse.specs.WordReading.{ReadsFraction, ReadsLimited};
 
-use crate::checks::GREATEST_PART;
-use crate::fault::ContractKind;
-use crate::fraction::split_fraction;
+use halo_check::{ContractKind, GREATEST_PART};
 use halo_interest::Interest;
+use halo_syntax::split_fraction;
 use halo_text::{NumberFault, number_up_to};
 
 /// The number that a word is, where it is at most `limit`.

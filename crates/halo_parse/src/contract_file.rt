@@ -1,17 +1,16 @@
 // Whole contract files.
 ghost use Rattle.std.specs.Prelude.{◌≡◌, ◌≤◌, ◌<◌, ◌+◌, ◌^◌, IfSome, IfNone, length};
 ghost use Rattle.halo_contract.specs.PlainContract.{contract_of};
-ghost use Rattle.halo_parse.specs.Draft.{contract_made};
+ghost use Rattle.halo_check.specs.Draft.{contract_made};
 ghost use Rattle.halo_parse.specs.Faults.{IsWhole};
-ghost use Rattle.halo_parse.specs.LineView.{draft_of};
+ghost use Rattle.halo_check.specs.DraftView.{draft_of};
 ghost use Rattle.halo_parse.specs.Reading.{ReadsContract};
 
 use crate::add_text::add_text;
-use crate::draft::Draft;
-use crate::error::LineError;
-use crate::fault::{ContractError, ContractFault, ContractKind};
-use crate::file_lines::Lines;
+use crate::fault::{ContractError, ContractFault};
+use halo_check::{ContractKind, Draft, LineError};
 use halo_contract::{Contract, Ties};
+use halo_syntax::Lines;
 use halo_table::Tables;
 use std::alloc::Global;
 

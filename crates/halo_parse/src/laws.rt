@@ -1,17 +1,6 @@
 // Laws of contract files: functions that do nothing, whose contracts are the laws.
 ghost use Rattle.halo_parse.specs.ContractLaws.{ContractsAreValid, PaysAreValid, PremiumsAreValid};
 ghost use Rattle.halo_parse.specs.FileLaws.{ContractIsOne, ContractOrFault, FirstFaultIsOne, NoFaultIsFirst};
-ghost use Rattle.halo_parse.specs.LineLaws.{LineIsDecided, LineIsOne};
-
-/// Words spell at most one line.
-pub fn line_is_one()
-    ensures { LineIsOne }
-{}
-
-/// Words spell a line, or they spell none.
-pub fn line_is_decided()
-    ensures { LineIsDecided }
-{}
 
 /// A pay line that passes all checks adds a valid pay on lives that were declared.
 pub fn pays_are_valid()

@@ -1,9 +1,10 @@
 // Sets of names as masks.
 ghost use Rattle.std.specs.Prelude.{◌≡◌, ◌≤◌, length, map};
 ghost use Rattle.halo_symbol.specs.SymbolView.{plain_names};
-ghost use Rattle.halo_parse.specs.Draft.{all_names, is_among, mask_of_names};
+ghost use Rattle.halo_check.specs.Draft.{all_names, is_among, mask_of_names};
 ghost use Rattle.halo_contract.specs.PlainContract.{life_names};
 
+use halo_check::is_among;
 use halo_contract::LifeLine;
 use halo_symbol::Names;
 use halo_table::Tables;
@@ -34,13 +35,6 @@ pub fn mask_of_causes(tables: &Tables, names: &Names<'_>) -> u8
         }
     }
     mask
-}
-
-/// Whether a name is one of some names.
-pub fn is_among(names: &[&[u8]], name: &[u8]) -> bool
-    ensures { result ≡ is_among (map (λ name. name.now) names.now) name.now }
-{
-    names.iter().any(|other| *other == name)
 }
 
 // Whether a name is one of a set.

@@ -6,15 +6,14 @@ ghost use Rattle.halo_symbol.specs.Proper.{IsProperSymbol};
 ghost use Rattle.halo_symbol.specs.StatusOf.{tree_of_symbol};
 ghost use Rattle.halo_symbol.specs.SymbolView.{plain_symbol};
 ghost use Rattle.halo_text.specs.Number.{IsNumber};
-ghost use Rattle.halo_parse.specs.Draft.{causes_of, defer_of, mark_of, pay_written, place_of, vary_of};
+ghost use Rattle.halo_check.specs.Draft.{causes_of, defer_of, mark_of, pay_written, place_of, vary_of};
 ghost use Rattle.halo_contract.specs.PlainContract.{life_names};
-ghost use Rattle.halo_parse.specs.Limits.{IsSymbolWithin, IsUpTo};
+ghost use Rattle.halo_check.specs.Limits.{IsSymbolWithin, IsUpTo};
 ghost use Rattle.halo_parse.specs.Usable.{IsUsableSymbol};
 
-use crate::Memory;
 use crate::masks::mask_of_causes;
-use crate::numbers::{number_within, rank_within, years_within};
 use crate::status_from::{members_from, status_from};
+use halo_check::{Memory, number_within, rank_within, years_within};
 use halo_contract::LifeLine;
 use halo_status::{Mark, Pay, Status, Vary};
 use halo_symbol as written;
@@ -72,7 +71,10 @@ fn defer_from(symbol: &Symbol<'_>) -> u16
     requires within { IsSymbolWithin (plain_symbol symbol.now) }
     ensures { result ≡ defer_of (plain_symbol symbol.now).defer }
 {
-    symbol.defer.map_or(0, years_within)
+    let Some(years) = symbol.defer else {
+        return 0;
+    };
+    years_within(years)
 }
 
 // The causes, the cause at place j of the tables as bit j.

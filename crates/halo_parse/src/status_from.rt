@@ -3,13 +3,11 @@ ghost use Rattle.std.specs.Prelude.{◌≡◌, ◌≤◌, Contains, IfOk, length
 ghost use Rattle.halo_status.specs.StatusTree.{tree_of, trees_in};
 ghost use Rattle.halo_symbol.specs.StatusOf.{tree_of_body, tree_of_list, tree_of_node, trees_of_members};
 ghost use Rattle.halo_symbol.specs.View.{plain_body, plain_members, plain_node};
-ghost use Rattle.halo_parse.specs.Draft.{place_of};
+ghost use Rattle.halo_check.specs.Draft.{place_of};
 ghost use Rattle.halo_contract.specs.PlainContract.{life_names};
 ghost use Rattle.halo_parse.specs.Usable.{AreUsable, IsUsable, IsUsableBody};
 
-use crate::Memory;
-use crate::declared::place_of_life;
-use crate::numbers::{rank_within, years_within};
+use halo_check::{Memory, place_of_life, rank_within, years_within};
 use halo_contract::LifeLine;
 use halo_status::{Members, Status};
 use halo_symbol as written;

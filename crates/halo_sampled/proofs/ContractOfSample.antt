@@ -4,7 +4,7 @@ use Rattle.std.specs.Prelude.{codes}
 use Rattle.std.specs.Fmt.{decimal}
 use Rattle.halo_interest.specs.declared.rate.Rate.{Rate}
 use Rattle.halo_text.specs.Number.{number}
-use Rattle.halo_parse.specs.Draft.{empty_draft, with_line}
+use Rattle.halo_check.specs.Draft.{empty_draft, with_line}
 use Rattle.halo_sample.specs.declared.contract.TheConstants.{LIVES, PAYS, RATES}
 use Rattle.halo_sample.specs.declared.tables.TheConstants.{LAST_AGE, TABLES}
 use Rattle.halo_sample.specs.Generator.{drawn, next_state, state_behind_pairs}

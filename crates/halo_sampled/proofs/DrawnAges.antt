@@ -3,9 +3,9 @@ use Rattle.std.proofs.Common.{◌≡◌, ℕ, zero, suc, ◌+◌, ◌<◌, ◌�
 use Rattle.std.specs.Prelude.{Contains}
 use Rattle.std.proofs.lemmas.List.{get_or-map, length-map}
 use Rattle.halo_table.specs.DecrementTable.{DecrementTable, HasRow, empty_table, last_age_of, names_of}
-use Rattle.halo_parse.specs.Draft.{place_of}
-use Rattle.halo_parse.proofs.LivesPlaced.{place_of-lt}
-use Rattle.halo_parse.proofs.Places.{among_at}
+use Rattle.halo_check.specs.Draft.{place_of}
+use Rattle.halo_check.proofs.LivesPlaced.{place_of-lt}
+use Rattle.halo_check.proofs.Places.{among_at}
 use Rattle.halo_sample.specs.declared.tables.TheConstants.{LAST_AGE, RADIX, TABLES}
 use Rattle.halo_sample.specs.Generator.{state_behind_pairs}
 use Rattle.halo_sample.specs.Tables.{table_rows}

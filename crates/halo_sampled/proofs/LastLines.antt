@@ -14,14 +14,14 @@ use Rattle.halo_contract.specs.Premium.{premium_pay}
 use Rattle.halo_contract.specs.PlainContract.{life_names}
 use Rattle.halo_contract.specs.declared.contract.LifeLine.{LifeLine}
 use Rattle.halo_contract.specs.declared.contract.ReserveLine.{ReserveLine}
-use Rattle.halo_parse.specs.Checks.{AreDifferent, HasYears, IsAliveIfNamed, IsDeclared, PassesAll}
-use Rattle.halo_parse.specs.Draft.{Draft, mask_of_names, place_of, with_line}
-use Rattle.halo_parse.specs.Limits.{IsShortName, IsStatusWithin}
-use Rattle.halo_parse.specs.Line.{premium, reserve}
-use Rattle.halo_parse.specs.Parts as parts
-use Rattle.halo_parse.specs.declared.fault.ContractKind.TheVariants as kind
-use Rattle.halo_parse.specs.declared.form.Form.TheVariants as form
-use Rattle.halo_parse.proofs.Order.{last_in_order}
+use Rattle.halo_check.specs.Checks.{AreDifferent, HasYears, IsAliveIfNamed, IsDeclared, PassesAll}
+use Rattle.halo_check.specs.Draft.{Draft, mask_of_names, place_of, with_line}
+use Rattle.halo_check.specs.Limits.{IsShortName, IsStatusWithin}
+use Rattle.halo_syntax.specs.Line.{premium, reserve}
+use Rattle.halo_check.specs.Parts as parts
+use Rattle.halo_check.specs.declared.fault.ContractKind.TheVariants as kind
+use Rattle.halo_syntax.specs.declared.form.Form.TheVariants as form
+use Rattle.halo_check.proofs.Order.{last_in_order}
 use Rattle.halo_spell.proofs.NumbersBack.{IsNumber-decimal}
 use Rattle.halo_symbol.specs.StatusOf.{tree_of_body}
 use Rattle.halo_sample.specs.declared.contract.TheConstants.{LIVES, PAYS}

@@ -9,12 +9,12 @@ use Rattle.halo_text.specs.Number.{IsNumber, number}
 use Rattle.halo_table.specs.DecrementTable.{TableFile, names_of}
 use Rattle.halo_contract.specs.PlainContract.{life_names}
 use Rattle.halo_contract.specs.declared.contract.LifeLine.{LifeLine}
-use Rattle.halo_parse.specs.Checks.{IsSome, PassesAll}
-use Rattle.halo_parse.specs.Draft.{empty_draft, place_of, with_line}
-use Rattle.halo_parse.specs.Limits.{IsRateWithin}
-use Rattle.halo_parse.specs.Line.{LaterRate, Line}
-use Rattle.halo_parse.specs.ProperLine.{IsProperRate}
-use Rattle.halo_parse.specs.declared.fault.ContractKind.TheVariants as kind
+use Rattle.halo_check.specs.Checks.{IsSome, PassesAll}
+use Rattle.halo_check.specs.Draft.{empty_draft, place_of, with_line}
+use Rattle.halo_check.specs.Limits.{IsRateWithin}
+use Rattle.halo_syntax.specs.Line.{LaterRate, Line}
+use Rattle.halo_syntax.specs.ProperLine.{IsProperRate}
+use Rattle.halo_check.specs.declared.fault.ContractKind.TheVariants as kind
 use Rattle.halo_spell.proofs.NumbersBack.{IsNumber-decimal, number-decimal}
 use Rattle.halo_sample.specs.declared.contract.TheConstants.{AGES, LIVES, RATES, YOUNGEST}
 use Rattle.halo_sample.specs.declared.tables.TheConstants.{TABLES}

@@ -9,10 +9,10 @@ use Rattle.halo_text.specs.Number.{number}
 use Rattle.halo_symbol.specs.Symbol.{Symbol}
 use Rattle.halo_contract.specs.PlainContract.{amount_of_all, life_names}
 use Rattle.halo_contract.specs.declared.contract.LifeLine.{LifeLine}
-use Rattle.halo_parse.specs.Checks.{PassesAll}
-use Rattle.halo_parse.specs.Draft.{pay_written, with_line}
-use Rattle.halo_parse.specs.Line.{Line}
-use Rattle.halo_parse.specs.declared.fault.ContractKind.TheVariants as kind
+use Rattle.halo_check.specs.Checks.{PassesAll}
+use Rattle.halo_check.specs.Draft.{pay_written, with_line}
+use Rattle.halo_syntax.specs.Line.{Line}
+use Rattle.halo_check.specs.declared.fault.ContractKind.TheVariants as kind
 use Rattle.halo_spell.proofs.NumbersBack.{IsNumber-decimal, number-decimal}
 use Rattle.halo_sample.specs.declared.contract.TheConstants.{AMOUNTS, LIVES, PAYS, SYMBOLS}
 use Rattle.halo_sample.specs.Generator.{drawn, drawn_second, next_state, state_behind_two}

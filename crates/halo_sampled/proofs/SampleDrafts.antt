@@ -7,16 +7,16 @@ use Rattle.halo_status.specs.Pay.{PlainPay}
 use Rattle.halo_table.specs.DecrementTable.{TableFile}
 use Rattle.halo_contract.specs.PlainContract.{PlainContract}
 use Rattle.halo_contract.specs.declared.contract.LifeLine.{LifeLine}
-use Rattle.halo_parse.specs.Checks.{PassesAll}
-use Rattle.halo_parse.specs.Draft.{Draft, contract_made, empty_draft, with_line}
+use Rattle.halo_check.specs.Checks.{PassesAll}
+use Rattle.halo_check.specs.Draft.{Draft, contract_made, empty_draft, with_line}
 use Rattle.halo_parse.specs.Faults.{IsWhole, MakesDraft, WritesContract}
-use Rattle.halo_parse.specs.FileLines.{lines_of}
-use Rattle.halo_parse.specs.Forms.{IsInOrder}
-use Rattle.halo_parse.specs.Line.{Line}
-use Rattle.halo_parse.specs.LineReading.{nest_line}
-use Rattle.halo_parse.specs.ProperLine.{IsProperLine}
-use Rattle.halo_parse.specs.declared.form.Form.TheVariants as form
-use Rattle.halo_parse.proofs.Order.{last_in_order, order_from_next}
+use Rattle.halo_syntax.specs.FileLines.{lines_of}
+use Rattle.halo_check.specs.FormOrder.{IsInOrder}
+use Rattle.halo_syntax.specs.Line.{Line}
+use Rattle.halo_syntax.specs.LineReading.{nest_line}
+use Rattle.halo_syntax.specs.ProperLine.{IsProperLine}
+use Rattle.halo_syntax.specs.declared.form.Form.TheVariants as form
+use Rattle.halo_check.proofs.Order.{last_in_order, order_from_next}
 use Rattle.halo_spell.specs.ContractText.{line_text, lines_text}
 use Rattle.halo_spell.proofs.ReadsBack.{fine_text}
 use Rattle.halo_spell.proofs.WordsBack.{IsInLine, lines_back, text_in_line}

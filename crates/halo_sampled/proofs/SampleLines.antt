@@ -6,7 +6,7 @@ use Rattle.std.proofs.lemmas.List.{get_or-map, map-append}
 use Rattle.std.proofs.lemmas.List.Folds.{flat_map-map}
 use Rattle.halo_symbol.specs.Bytes.{symbol_bytes}
 use Rattle.halo_symbol.specs.Symbol.{Symbol}
-use Rattle.halo_parse.specs.Line.{Line, line_words}
+use Rattle.halo_syntax.specs.Line.{Line, line_words}
 use Rattle.halo_spell.specs.ContractText.{lines_text}
 use Rattle.halo_sample.specs.declared.contract.TheConstants.{AMOUNTS, LIVES, PAYS, RATES, SYMBOLS}
 use Rattle.halo_sample.specs.declared.tables.TheConstants.{LAST_AGE, TABLES}

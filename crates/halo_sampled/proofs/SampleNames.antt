@@ -9,8 +9,8 @@ use Rattle.halo_text.specs.Name.{is_name_byte}
 use Rattle.halo_text.specs.Number.{IsDigit}
 use Rattle.halo_lex.specs.Lexeme.{IsLongName}
 use Rattle.halo_symbol.specs.Proper.{IsPlainName}
-use Rattle.halo_parse.specs.Checks.{AreDifferent}
-use Rattle.halo_parse.specs.Limits.{IsShortName}
+use Rattle.halo_check.specs.Checks.{AreDifferent}
+use Rattle.halo_check.specs.Limits.{IsShortName}
 use Rattle.halo_spell.proofs.NumbersBack.{IsNumber-decimal}
 use Rattle.halo_sampled.specs.DrawnLines.{life_name, table_name}
 use Rattle.halo_sampled.proofs.ShortContract.{few-digits}

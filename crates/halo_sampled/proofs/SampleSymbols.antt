@@ -11,11 +11,11 @@ use Rattle.halo_status.specs.declared.pay.Kind.TheVariants.{Insurance}
 use Rattle.halo_symbol.specs.Nesting.{nest_body}
 use Rattle.halo_symbol.specs.Proper.{IsPlainName, IsProperSymbol}
 use Rattle.halo_symbol.specs.Symbol.{Symbol}
-use Rattle.halo_parse.specs.Checks.{AreDifferent, FallsFromSome, HasYears, IsDeclared, OfMembers}
+use Rattle.halo_check.specs.Checks.{AreDifferent, FallsFromSome, HasYears, IsDeclared, OfMembers}
 use Rattle.halo_symbol.specs.StatusOf.{tree_of_symbol}
-use Rattle.halo_parse.specs.Draft.{all_names, place_of}
-use Rattle.halo_parse.specs.Limits.{IsShortName, IsSymbolWithin}
-use Rattle.halo_parse.specs.Parts as parts
+use Rattle.halo_check.specs.Draft.{all_names, place_of}
+use Rattle.halo_check.specs.Limits.{IsShortName, IsSymbolWithin}
+use Rattle.halo_check.specs.Parts as parts
 use Rattle.halo_sampled.specs.DrawnLines.{drawn_symbols, first_reserve, on_at_least, on_cause, on_exactly, on_first_death, on_last, on_later, on_reversion, on_term, symbol_at}
 use Rattle.halo_sampled.proofs.KnownNames.{death-is-cause, death-is-name, sample_causes, written}
 

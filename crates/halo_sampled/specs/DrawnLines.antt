@@ -5,7 +5,7 @@ use Rattle.halo_status.specs.declared.pay.Kind.TheVariants.{Due, Immediate, Insu
 use Rattle.halo_symbol.specs.Symbol.{Symbol, decreasing, increasing, level}
 use Rattle.halo_symbol.specs.Tree as tree
 use Rattle.halo_symbol.specs.Tree.{Body, Members, Node, and, at_least, exactly, last, list, one, reversion, term}
-use Rattle.halo_parse.specs.Line.{Line, interest, life, pay, premium, reserve}
+use Rattle.halo_syntax.specs.Line.{Line, interest, life, pay, premium, reserve}
 use Rattle.halo_sample.specs.declared.contract.TheConstants.{AGES, AMOUNTS, LIVES, PAYS, RATES, SYMBOLS, YOUNGEST}
 use Rattle.halo_sample.specs.declared.tables.TheConstants.{LAST_AGE, TABLES}
 use Rattle.halo_sample.specs.Generator.{drawn, drawn_second, next_state, state_behind_pairs, state_behind_two}

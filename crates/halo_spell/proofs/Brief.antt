@@ -4,11 +4,11 @@ use Rattle.std.specs.Prelude.{unwrap_or}
 use Rattle.halo_table.specs.DecrementTable.{TableFile}
 use Rattle.halo_contract.specs.declared.ties.Ties.{Ties}
 use Rattle.halo_contract.specs.declared.ties.Ties.TheVariants as rule
-use Rattle.halo_parse.specs.Draft.{Draft, contract_made}
-use Rattle.halo_parse.specs.Forms.{CameBefore}
-use Rattle.halo_parse.specs.Line.{Line}
-use Rattle.halo_parse.specs.declared.form.Form.{Form}
-use Rattle.halo_parse.specs.declared.form.Form.TheVariants as form
+use Rattle.halo_check.specs.Draft.{Draft, contract_made}
+use Rattle.halo_check.specs.FormOrder.{CameBefore}
+use Rattle.halo_syntax.specs.Line.{Line}
+use Rattle.halo_syntax.specs.declared.form.Form.{Form}
+use Rattle.halo_syntax.specs.declared.form.Form.TheVariants as form
 use Rattle.halo_spell.specs.ContractText.{canonical_lines}
 
 -- the canonical lines of the contract that a draft makes

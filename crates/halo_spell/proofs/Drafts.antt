@@ -13,19 +13,20 @@ use Rattle.halo_symbol.specs.Symbol.{Symbol}
 use Rattle.halo_symbol.specs.Tree.{Body}
 use Rattle.halo_symbol.specs.StatusOf.{tree_of_body}
 use Rattle.halo_table.specs.DecrementTable.{TableFile, names_of}
-use Rattle.halo_parse.specs.Checks.{AreDifferent, PassesAll}
-use Rattle.halo_parse.specs.Draft.{Draft, mask_of_names, pay_written, place_of, rate_from, with_line}
+use Rattle.halo_check.specs.Checks.{AreDifferent, PassesAll}
+use Rattle.halo_check.specs.Draft.{Draft, mask_of_names, pay_written, place_of, rate_from, with_line}
 use Rattle.halo_contract.specs.PlainContract.{life_names}
-use Rattle.halo_parse.specs.Forms.{CameBefore, IsInOrder, place_of_form}
-use Rattle.halo_parse.specs.Limits.{IsShortName}
-use Rattle.halo_parse.specs.Line.{LaterRate, Line, interest, life, pay, premium, reserve, ties}
-use Rattle.halo_parse.specs.ProperLine.{IsProperLine}
+use Rattle.halo_syntax.specs.Forms.{place_of_form}
+use Rattle.halo_check.specs.FormOrder.{CameBefore, IsInOrder}
+use Rattle.halo_check.specs.Limits.{IsShortName}
+use Rattle.halo_syntax.specs.Line.{LaterRate, Line, interest, life, pay, premium, reserve, ties}
+use Rattle.halo_syntax.specs.ProperLine.{IsProperLine}
 use Rattle.halo_contract.specs.declared.contract.LifeLine.{LifeLine}
-use Rattle.halo_parse.specs.declared.fault.ContractKind.TheVariants as kind
-use Rattle.halo_parse.specs.declared.form.Form.{Form}
-use Rattle.halo_parse.specs.declared.form.Form.TheVariants as form
+use Rattle.halo_check.specs.declared.fault.ContractKind.TheVariants as kind
+use Rattle.halo_syntax.specs.declared.form.Form.{Form}
+use Rattle.halo_syntax.specs.declared.form.Form.TheVariants as form
 use Rattle.halo_contract.specs.declared.ties.Ties.TheVariants as rule
-use Rattle.halo_parse.proofs.Places.{among_at}
+use Rattle.halo_check.proofs.Places.{among_at}
 use Rattle.halo_spell.specs.ContractText.{canonical_rate, life_line, pay_line, premium_line, reserve_line}
 use Rattle.halo_spell.proofs.Brief.{lines_for}
 use Rattle.halo_spell.proofs.SpelledLines.{IsNamed}

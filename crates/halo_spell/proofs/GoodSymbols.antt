@@ -14,10 +14,10 @@ use Rattle.halo_status.specs.declared.pay.Mark.{Mark}
 use Rattle.halo_status.specs.declared.pay.Vary.{Vary}
 use Rattle.halo_status.specs.declared.pay.Vary.TheVariants as paid
 use Rattle.halo_symbol.specs.Proper.{AreProperNames, IsPlainName, IsProperSymbol, IsProperVary, MayHaveCauses, MayHaveMark, StandsIn}
-use Rattle.halo_parse.specs.Checks.{AreDifferent, FallsFromSome}
-use Rattle.halo_parse.specs.Draft.{all_names, place_of}
-use Rattle.halo_parse.specs.Limits.{AreNamesWithin, IsShortName, IsSymbolWithin, IsUpTo, IsVaryWithin, any_life}
-use Rattle.halo_parse.proofs.Nodes.{nodes-tree_of_symbol}
+use Rattle.halo_check.specs.Checks.{AreDifferent, FallsFromSome}
+use Rattle.halo_check.specs.Draft.{all_names, place_of}
+use Rattle.halo_check.specs.Limits.{AreNamesWithin, IsShortName, IsSymbolWithin, IsUpTo, IsVaryWithin, any_life}
+use Rattle.halo_check.proofs.Nodes.{nodes-tree_of_symbol}
 use Rattle.halo_spell.specs.Canonical.{canonical_body, canonical_defer, canonical_mark, canonical_symbol, canonical_vary, names_in, set_of}
 use Rattle.halo_spell.proofs.NamesBack.{All-chosen, names_in-different}
 use Rattle.halo_spell.proofs.NumbersBack.{IsNumber-decimal, number-decimal}

@@ -23,19 +23,19 @@ use Rattle.halo_symbol.specs.Tree.{Body}
 use Rattle.halo_lex.specs.Lexeme.{IsLongName}
 use Rattle.halo_table.specs.DecrementTable.{DecrementTable, TableFile, empty_table, last_age_of, name_of, names_of}
 use Rattle.halo_table.specs.Sound.{IsSound}
-use Rattle.halo_parse.specs.Checks.{IsSome, IsWithinLimits, OfMembers, PassesAll, YearsRise, year_at}
-use Rattle.halo_parse.specs.Draft.{Draft, mask_of_names, pay_written, place_of, rate_from, with_line}
+use Rattle.halo_check.specs.Checks.{IsSome, IsWithinLimits, OfMembers, PassesAll, YearsRise, year_at}
+use Rattle.halo_check.specs.Draft.{Draft, mask_of_names, pay_written, place_of, rate_from, with_line}
 use Rattle.halo_contract.specs.PlainContract.{life_names}
-use Rattle.halo_parse.specs.Limits.{IsRateWithin, IsShortName, any_life}
-use Rattle.halo_parse.specs.Line.{Line, LaterRate, interest, life, pay, premium, reserve, ties}
-use Rattle.halo_parse.specs.LineReading.{nest_line}
-use Rattle.halo_parse.specs.ProperLine.{IsProperLine, IsProperRate}
+use Rattle.halo_check.specs.Limits.{IsRateWithin, IsShortName, any_life}
+use Rattle.halo_syntax.specs.Line.{Line, LaterRate, interest, life, pay, premium, reserve, ties}
+use Rattle.halo_syntax.specs.LineReading.{nest_line}
+use Rattle.halo_syntax.specs.ProperLine.{IsProperLine, IsProperRate}
 use Rattle.halo_contract.specs.declared.contract.LifeLine.{LifeLine}
-use Rattle.halo_parse.specs.declared.fault.ContractKind.TheVariants as kind
-use Rattle.halo_parse.specs.declared.form.Form.TheVariants as form
+use Rattle.halo_check.specs.declared.fault.ContractKind.TheVariants as kind
+use Rattle.halo_syntax.specs.declared.form.Form.TheVariants as form
 use Rattle.halo_contract.specs.declared.ties.Ties.TheVariants as rule
 use Rattle.halo_parse.proofs.MasksOfNames.{mask_of_names-lt}
-use Rattle.halo_parse.proofs.Nodes.{nodes-tree_of_body}
+use Rattle.halo_check.proofs.Nodes.{nodes-tree_of_body}
 use Rattle.halo_spell.specs.Canonical.{canonical_body, canonical_mark, names_in}
 use Rattle.halo_spell.specs.ContractText.{canonical_rate, life_line, pay_line, premium_line, reserve_line}
 use Rattle.halo_spell.proofs.Brief.{brief_rule, briefly, came}

@@ -7,7 +7,7 @@ use Rattle.std.proofs.lemmas.Bool.{ne_eqb}
 use Rattle.halo_interest.specs.Rates.{rate_at}
 use Rattle.halo_interest.specs.declared.rate.Rate.{Rate}
 use Rattle.halo_contract.specs.PlainContract.{life_names}
-use Rattle.halo_parse.specs.Line.{Line, fraction_word, rate_words}
+use Rattle.halo_syntax.specs.Line.{Line, fraction_word, rate_words}
 use Rattle.halo_contract.specs.declared.contract.LifeLine.{LifeLine}
 use Rattle.halo_spell.specs.Canonical.{names_in}
 use Rattle.halo_spell.specs.ContractText.{canonical_rate, interest_lines, line_text, lines_text}

@@ -8,13 +8,13 @@ use Rattle.std.proofs.lemmas.List.Sums.{passes_at_first}
 use Rattle.std.proofs.lemmas.Slice.Eq.{bytes_eq-Decides}
 use Rattle.std.proofs.lemmas.Bool.{cases_lt}
 use Rattle.halo_sums.specs.Masks.{bits}
-use Rattle.halo_parse.specs.Checks.{AreDifferent}
+use Rattle.halo_check.specs.Checks.{AreDifferent}
 use Rattle.halo_sums.specs.SetMasks.{mask_of}
 use Rattle.halo_sums.proofs.SetMasks.{bits-mask_of, length-bits, mask_of-bits}
-use Rattle.halo_parse.specs.Draft.{is_among, mask_of_names, place_of}
-use Rattle.halo_parse.proofs.AmongNames.{among-Contains}
-use Rattle.halo_parse.proofs.LivesPlaced.{place_of-lt}
-use Rattle.halo_parse.proofs.Places.{place_is}
+use Rattle.halo_check.specs.Draft.{is_among, mask_of_names, place_of}
+use Rattle.halo_check.proofs.AmongNames.{among-Contains}
+use Rattle.halo_check.proofs.LivesPlaced.{place_of-lt}
+use Rattle.halo_check.proofs.Places.{place_is}
 use Rattle.halo_spell.specs.Canonical.{chosen, name_at, names_in}
 
 -- the place of the name at a place is that place, where no two names are equal

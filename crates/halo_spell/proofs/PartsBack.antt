@@ -3,7 +3,7 @@ use Rattle.std.proofs.Common.{◌≡◌, ℕ, ◌+◌, ◌≤◌, ◌<◌, List,
 use Rattle.std.specs.Prelude.{All, ⊤}
 use Rattle.std.specs.Fmt.{decimal}
 use Rattle.std.proofs.lemmas.List.Elements.{All-get_or}
-use Rattle.halo_parse.proofs.Places.{among_at}
+use Rattle.halo_check.proofs.Places.{among_at}
 use Rattle.halo_text.specs.Number.{IsNumber}
 use Rattle.halo_status.specs.Nodes.{AtEachNode, AtEachNodeIn}
 use Rattle.halo_status.specs.Tree as status
@@ -11,10 +11,10 @@ use Rattle.halo_status.specs.Tree.{Tree, Trees}
 use Rattle.halo_status.specs.ValidPay.{IsLength}
 use Rattle.halo_symbol.specs.Proper.{AreProper, IsPlainName, IsProper, IsProperBody}
 use Rattle.halo_symbol.specs.Tree.{Node, life, term, last, at_least, exactly, group, Members, one, and, Body, list, reversion, member_count}
-use Rattle.halo_parse.specs.Checks.{HasYears, IsDeclared}
-use Rattle.halo_parse.specs.Limits.{IsBodyWithin, IsListWithin, IsMemberWithin, IsShortName}
-use Rattle.halo_parse.specs.Parts as parts
-use Rattle.halo_parse.specs.Parts.{AtEach, AtEachMember, AtEachOfBody}
+use Rattle.halo_check.specs.Checks.{HasYears, IsDeclared}
+use Rattle.halo_check.specs.Limits.{IsBodyWithin, IsListWithin, IsMemberWithin, IsShortName}
+use Rattle.halo_check.specs.Parts as parts
+use Rattle.halo_check.specs.Parts.{AtEach, AtEachMember, AtEachOfBody}
 use Rattle.halo_spell.specs.Canonical.{body_of, canonical_body, canonical_members, canonical_node, canonical_row, list_of, name_at}
 use Rattle.halo_spell.proofs.FitTrees.{IsFit}
 use Rattle.halo_spell.proofs.NumbersBack.{IsNumber-decimal, number-decimal}

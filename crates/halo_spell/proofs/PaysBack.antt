@@ -16,9 +16,9 @@ use Rattle.halo_status.specs.declared.pay.Vary.TheVariants as paid
 use Rattle.halo_symbol.specs.Nesting.{nest_body}
 use Rattle.halo_symbol.specs.Proper.{IsPlainName}
 use Rattle.halo_symbol.specs.StatusOf.{tree_of_content}
-use Rattle.halo_parse.specs.Checks.{AreDifferent}
+use Rattle.halo_check.specs.Checks.{AreDifferent}
 use Rattle.halo_contract.specs.ValidContract.{IsValidAmong}
-use Rattle.halo_parse.specs.Draft.{causes_of, defer_of, mark_of, mask_of_names, pay_written, place_of, vary_of}
+use Rattle.halo_check.specs.Draft.{causes_of, defer_of, mark_of, mask_of_names, pay_written, place_of, vary_of}
 use Rattle.halo_spell.specs.Canonical.{canonical_body, canonical_defer, canonical_mark, canonical_symbol, canonical_vary, names_in, set_of}
 use Rattle.halo_spell.proofs.CausesLeft.{some_name}
 use Rattle.halo_spell.proofs.NamesBack.{mask_back}

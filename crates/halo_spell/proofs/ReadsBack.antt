@@ -6,19 +6,19 @@ use Rattle.std.proofs.lemmas.List.{map_push}
 use Rattle.std.proofs.lemmas.List.Elements.{All-nil, All-push}
 use Rattle.halo_table.specs.DecrementTable.{TableFile}
 use Rattle.halo_table.specs.Sound.{IsSound}
-use Rattle.halo_parse.specs.Checks.{PassesAll}
-use Rattle.halo_parse.specs.Draft.{Draft, empty_draft, with_line}
+use Rattle.halo_check.specs.Checks.{PassesAll}
+use Rattle.halo_check.specs.Draft.{Draft, empty_draft, with_line}
 use Rattle.halo_parse.specs.Faults.{IsFine, MakesDraft, WritesContract}
-use Rattle.halo_parse.specs.FileLines.{is_silent, lines_of, words_of}
-use Rattle.halo_parse.specs.Line.{Line, interest, life, line_words, pay, premium, reserve, ties}
-use Rattle.halo_parse.specs.LineReading.{nest_line, NoLine, NoLineTo}
-use Rattle.halo_parse.specs.ProperLine.{IsProperLine, SpellsLine}
-use Rattle.halo_parse.specs.declared.fault.ContractKind.TheVariants as kind
+use Rattle.halo_syntax.specs.FileLines.{is_silent, lines_of, words_of}
+use Rattle.halo_syntax.specs.Line.{Line, interest, life, line_words, pay, premium, reserve, ties}
+use Rattle.halo_syntax.specs.LineReading.{nest_line, NoLine, NoLineTo}
+use Rattle.halo_syntax.specs.ProperLine.{IsProperLine, SpellsLine}
+use Rattle.halo_check.specs.declared.fault.ContractKind.TheVariants as kind
 use Rattle.halo_contract.specs.PlainContract.{PlainContract, life_names}
 use Rattle.halo_contract.specs.declared.ties.Ties.TheVariants as rule
-use Rattle.halo_parse.specs.Depth.{IsShallow}
-use Rattle.halo_parse.proofs.lines.Deep.{no_line_at_all}
-use Rattle.halo_parse.proofs.lines.OneLine.{line_one}
+use Rattle.halo_syntax.specs.Depth.{IsShallow}
+use Rattle.halo_syntax.proofs.lines.Deep.{no_line_at_all}
+use Rattle.halo_syntax.proofs.lines.OneLine.{line_one}
 use Rattle.halo_spell.specs.ContractText.{contract_text, line_text}
 use Rattle.halo_spell.proofs.Brief.{brief_rule, briefly, lines_for, same_contract}
 use Rattle.halo_spell.proofs.Drafts.{AddsLine, declared_last, interest_last, life_last, named_at_first, named_by_line, nothing_in, pay_last, premium_last, reserve_last, ties_last}

@@ -18,10 +18,10 @@ use Rattle.halo_symbol.specs.Tree.{Body, Members, Node, and, at_least, exactly, 
 use Rattle.halo_text.specs.Name.{is_name_byte}
 use Rattle.halo_text.specs.Number.{IsDigit, IsNumber}
 use Rattle.halo_lex.specs.Lexeme.{IsLongName}
-use Rattle.halo_parse.specs.Depth.{IsShallow, count_of}
-use Rattle.halo_parse.specs.Line.{LaterRate, Line, fraction_word, interest, life, pay, premium, rate_words, reserve, ties}
-use Rattle.halo_parse.specs.LineReading.{nest_line}
-use Rattle.halo_parse.specs.ProperLine.{IsProperLine, IsProperRate}
+use Rattle.halo_syntax.specs.Depth.{IsShallow, count_of}
+use Rattle.halo_syntax.specs.Line.{LaterRate, Line, fraction_word, interest, life, pay, premium, rate_words, reserve, ties}
+use Rattle.halo_syntax.specs.LineReading.{nest_line}
+use Rattle.halo_syntax.specs.ProperLine.{IsProperLine, IsProperRate}
 use Rattle.halo_contract.specs.declared.ties.Ties.TheVariants as rule
 use Rattle.halo_spell.specs.ContractText.{line_text}
 

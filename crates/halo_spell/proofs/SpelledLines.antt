@@ -20,13 +20,13 @@ use Rattle.halo_symbol.specs.Symbol as written
 use Rattle.halo_symbol.specs.Symbol.{Names, Symbol}
 use Rattle.halo_symbol.specs.Tree.{Body, list, reversion}
 use Rattle.halo_table.specs.DecrementTable.{TableFile}
-use Rattle.halo_parse.specs.Checks.{AreDifferent, PassesAll, status_tree}
-use Rattle.halo_parse.specs.Draft.{Draft, all_names, causes_of, mark_of, pay_written, place_of}
+use Rattle.halo_check.specs.Checks.{AreDifferent, PassesAll, status_tree}
+use Rattle.halo_check.specs.Draft.{Draft, all_names, causes_of, mark_of, pay_written, place_of}
 use Rattle.halo_contract.specs.PlainContract.{life_names}
-use Rattle.halo_parse.specs.Limits.{IsShortName}
-use Rattle.halo_parse.specs.Line.{pay, premium}
+use Rattle.halo_check.specs.Limits.{IsShortName}
+use Rattle.halo_syntax.specs.Line.{pay, premium}
 use Rattle.halo_contract.specs.declared.contract.LifeLine.{LifeLine}
-use Rattle.halo_parse.specs.ProperLine.{IsProperLine}
+use Rattle.halo_syntax.specs.ProperLine.{IsProperLine}
 use Rattle.halo_parse.proofs.ValidPays.{pays_are_valid, premiums_are_valid}
 use Rattle.halo_spell.specs.Canonical.{canonical_body, canonical_mark, name_at, names_in}
 use Rattle.halo_spell.proofs.FitTrees.{IsFit, fit, fit_in}

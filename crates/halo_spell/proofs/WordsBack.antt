@@ -20,9 +20,9 @@ use Rattle.halo_symbol.specs.Symbol.{Symbol}
 use Rattle.halo_symbol.specs.Tree.{Body}
 use Rattle.halo_symbol.proofs.Lengths.{body_pieces-longer, symbol_pieces-longer}
 use Rattle.halo_symbol.proofs.Words.{spelled_pieces, status_pieces}
-use Rattle.halo_parse.specs.FileLines.{is_line_feed, is_some, lines_of, without_empty_end, without_mark, without_return, words_of}
-use Rattle.halo_parse.specs.Line.{LaterRate, Line, fraction_word, interest, life, line_words, pay, premium, rate_words, reserve, rule_word, ties}
-use Rattle.halo_parse.specs.ProperLine.{IsProperLine, IsProperRate}
+use Rattle.halo_syntax.specs.FileLines.{is_line_feed, is_some, lines_of, without_empty_end, without_mark, without_return, words_of}
+use Rattle.halo_syntax.specs.Line.{LaterRate, Line, fraction_word, interest, life, line_words, pay, premium, rate_words, reserve, rule_word, ties}
+use Rattle.halo_syntax.specs.ProperLine.{IsProperLine, IsProperRate}
 use Rattle.halo_contract.specs.declared.ties.Ties.TheVariants as rule
 use Rattle.halo_spell.specs.ContractText.{line_text, lines_text}
 

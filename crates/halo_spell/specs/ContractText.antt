@@ -9,8 +9,8 @@ use Rattle.halo_status.specs.Pay.{PlainPay}
 use Rattle.halo_symbol.specs.Bytes.{symbol_bytes}
 use Rattle.halo_table.specs.DecrementTable.{TableFile, name_of}
 use Rattle.halo_contract.specs.PlainContract.{PlainContract, life_names}
-use Rattle.halo_parse.specs.Line as line
-use Rattle.halo_parse.specs.Line.{Line, LaterRate, line_words}
+use Rattle.halo_syntax.specs.Line as line
+use Rattle.halo_syntax.specs.Line.{Line, LaterRate, line_words}
 use Rattle.halo_contract.specs.declared.contract.LifeLine.{LifeLine}
 use Rattle.halo_contract.specs.declared.contract.ReserveLine.{ReserveLine}
 use Rattle.halo_contract.specs.declared.ties.Ties.{Ties}

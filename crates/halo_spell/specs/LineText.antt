@@ -2,7 +2,7 @@
 use Rattle.std.specs.Prelude.{ℕ, List, ◌++◌, codes, flat_map}
 use Rattle.std.specs.Fmt.{decimal}
 use Rattle.halo_interest.specs.declared.rate.Rate.{Rate}
-use Rattle.halo_parse.specs.Line.{fraction_word}
+use Rattle.halo_syntax.specs.Line.{fraction_word}
 
 -- a fraction behind another one: its year and then the fraction, a space before each
 abbrev pub rate_text : Rate → List ℕ

@@ -2,7 +2,7 @@
 ghost use Rattle.std.specs.Prelude.{◌≡◌, ◌++◌, ◌<◌, OnOk, length};
 ghost use Rattle.std.specs.Fmt.{decimal};
 ghost use Rattle.halo_interest.specs.Rates.{rate_at};
-ghost use Rattle.halo_parse.specs.Line.{fraction_word};
+ghost use Rattle.halo_syntax.specs.Line.{fraction_word};
 ghost use Rattle.halo_spell.specs.ContractText.{interest_lines, lines_text};
 ghost use Rattle.halo_spell.specs.LineText.{rate_text};
 

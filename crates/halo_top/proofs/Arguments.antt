@@ -12,10 +12,10 @@ use Rattle.halo_interest.specs.declared.rate.Rate.{Rate}
 use Rattle.halo_table.specs.DecrementTable.{DecrementTable, TableFile, empty_table, name_of, names_of}
 use Rattle.halo_table.specs.Sound.{IsSound}
 use Rattle.halo_table.proofs.Deciding.{dec_bytes}
-use Rattle.halo_parse.specs.LineReading.{IsFraction}
+use Rattle.halo_syntax.specs.LineReading.{IsFraction}
 use Rattle.halo_parse.specs.WordReading.{IsFractionWithin, ReadsFraction}
-use Rattle.halo_parse.proofs.lines.Slashes.{fraction_one}
-use Rattle.halo_parse.proofs.lines.WordChoices.{fraction_choice}
+use Rattle.halo_syntax.proofs.lines.Slashes.{fraction_one}
+use Rattle.halo_syntax.proofs.lines.WordChoices.{fraction_choice}
 use Rattle.halo_top.specs.Arguments.{HasName, HasNoTable, IsArgumentFault, ReadsInterest, TellsNamed}
 use Rattle.halo_top.specs.declared.refusal.ArgumentKind.{ArgumentKind}
 use Rattle.halo_top.specs.declared.refusal.ArgumentKind.TheVariants as argument

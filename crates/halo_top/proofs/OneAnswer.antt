@@ -12,8 +12,8 @@ use Rattle.halo_table.proofs.FirstFault.{fine_or_fault, first_is_one}
 use Rattle.halo_table.proofs.Soundness.{sound_of_fine}
 use Rattle.halo_contract.specs.PlainContract.{PlainContract}
 use Rattle.halo_parse.specs.declared.fault.ContractFault.{ContractFault}
-use Rattle.halo_parse.specs.declared.fault.ContractKind.{ContractKind}
-use Rattle.halo_parse.specs.declared.fault.ContractKind.TheVariants as wrong
+use Rattle.halo_check.specs.declared.fault.ContractKind.{ContractKind}
+use Rattle.halo_check.specs.declared.fault.ContractKind.TheVariants as wrong
 use Rattle.halo_parse.proofs.laws.OneFault.{contract_is_one, first_fault_is_one, no_fault_is_first}
 use Rattle.halo_top.specs.Arguments.{IsArgumentFault, TellsColumns, TellsNamed}
 use Rattle.halo_top.specs.Command.{Asks, Request, of_columns, of_contract, of_sample, request_words, task_word}

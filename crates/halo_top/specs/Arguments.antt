@@ -8,7 +8,7 @@ use Rattle.halo_table.specs.DecrementTable.{TableFile, name_of}
 use Rattle.halo_columns.specs.Entries.{columns_of}
 use Rattle.halo_columns.specs.Set.{ColumnLists, EnclosesColumns}
 use Rattle.halo_parse.specs.WordReading.{ReadsFraction}
-use Rattle.halo_parse.specs.declared.fault.ContractKind.TheVariants as wrong
+use Rattle.halo_check.specs.declared.fault.ContractKind.TheVariants as wrong
 use Rattle.halo_report.specs.ColumnsText.{columns_text}
 use Rattle.halo_top.specs.declared.refusal.ArgumentKind.{ArgumentKind}
 use Rattle.halo_top.specs.declared.refusal.ArgumentKind.TheVariants as argument

@@ -1,8 +1,8 @@
 -- The line and the status of each refusal.
 use Rattle.std.specs.Prelude.{ℕ, List, ◌++◌, codes}
 use Rattle.std.specs.Fmt.{decimal}
-use Rattle.halo_parse.specs.declared.fault.ContractKind.{ContractKind}
-use Rattle.halo_parse.specs.declared.fault.ContractKind.TheVariants as wrong
+use Rattle.halo_check.specs.declared.fault.ContractKind.{ContractKind}
+use Rattle.halo_check.specs.declared.fault.ContractKind.TheVariants as wrong
 use Rattle.halo_table.specs.declared.fault.TableKind.{TableKind}
 use Rattle.halo_table.specs.declared.fault.TableKind.TheVariants as kind
 use Rattle.halo_top.specs.declared.refusal.ArgumentKind.{ArgumentKind}

@@ -3,10 +3,11 @@ ghost use Rattle.std.specs.Prelude.{◌≡◌, ◌<◌, IfOk, length};
 ghost use Rattle.halo_top.specs.Arguments.{AnswersArguments, ReadsInterest, TellsColumns};
 
 use crate::refusal::{ArgumentKind, Refusal, Stop};
+use halo_check::ContractKind;
 use halo_columns::columns as enclosed_columns;
 use halo_interest::Interest;
 use halo_num::Steps;
-use halo_parse::{ContractKind, read_fraction};
+use halo_parse::read_fraction;
 use halo_report::{Memory, columns_text};
 use halo_table::Tables;
 use std::alloc::Global;

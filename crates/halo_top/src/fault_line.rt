@@ -4,7 +4,7 @@ ghost use Rattle.halo_top.specs.Refusal.{argument_word, contract_kind_word, file
 
 use crate::refusal::{ArgumentKind, InputFile, Refusal};
 use arrayvec::ArrayString;
-use halo_parse::ContractKind;
+use halo_check::ContractKind;
 use halo_table::TableKind;
 use itoa::Buffer;
 

@@ -3,7 +3,8 @@ ghost use Rattle.std.specs.Prelude.{◌≡◌, ◌≤◌};
 ghost use Rattle.halo_top.specs.Input.{limit_of};
 ghost use Rattle.halo_top.specs.Refusal.{status_of};
 
-use halo_parse::{ContractFault, ContractKind};
+use halo_check::ContractKind;
+use halo_parse::ContractFault;
 use halo_table::TableFault;
 
 /// A file that a command reads.

@@ -4,18 +4,17 @@ use Rattle.std.proofs.Math.Decide.{map_dec, dec_le, dec_lt}
 use Rattle.std.proofs.lemmas.Bool.{cases_Bool}
 use Rattle.halo_symbol.specs.Characters.{round_close, round_open}
 use Rattle.halo_table.specs.DecrementTable.{TableFile}
-use Rattle.halo_parse.specs.Depth.{IsShallow, count_of}
-use Rattle.halo_parse.specs.Draft.{Draft, contract_made, empty_draft, with_line}
-use Rattle.halo_parse.specs.Faults.{FirstFaultOf, HasFault, IsFine, IsReadable, IsSilent, IsWhole, MakesDraft}
+use Rattle.halo_syntax.specs.Depth.{IsShallow, count_of}
+use Rattle.halo_check.specs.Draft.{Draft, contract_made, empty_draft, with_line}
+use Rattle.halo_parse.specs.Faults.{FirstFaultOf, HasFault, IsFine, IsReadable, IsWhole, MakesDraft}
+use Rattle.halo_syntax.specs.FileLines.{IsSilent, is_silent, lines_of, words_of}
 use Rattle.halo_parse.specs.FileLaws.{ContractOrFault}
-use Rattle.halo_parse.specs.FileLines.{is_silent, lines_of, words_of}
-use Rattle.halo_parse.specs.Line.{Line}
-use Rattle.halo_parse.specs.declared.fault.ContractKind.{ContractKind}
-use Rattle.halo_parse.specs.declared.fault.ContractKind.TheVariants as kind
-use Rattle.halo_parse.proofs.laws.CheckOrder.{first_failed}
-use Rattle.halo_parse.proofs.laws.Deciding.{dec_each, dec_some, dec_three}
-use Rattle.halo_parse.proofs.laws.DecidingChecks.{dec_passes}
-use Rattle.halo_parse.proofs.lines.LineChoices.{line_choice}
+use Rattle.halo_syntax.specs.Line.{Line}
+use Rattle.halo_check.specs.declared.fault.ContractKind.{ContractKind}
+use Rattle.halo_check.specs.declared.fault.ContractKind.TheVariants as kind
+use Rattle.halo_check.proofs.laws.Deciding.{dec_each, dec_some, dec_three}
+use Rattle.halo_check.proofs.laws.DecidingChecks.{passes_or_fails}
+use Rattle.halo_syntax.proofs.lines.LineChoices.{line_choice}
 
 -- brackets that open too far, or not
 dec_shallow : (line : List ℕ) → Dec (IsShallow line)
@@ -38,7 +37,7 @@ module _ (tables : TableFile) (d : Draft) (text : List ℕ) where
   readable_choice : IsReadable text → SpokenChoice tables d text
   readable_choice readable = elim (line_choice (words_of text)) [
     | inr none ↦ inr (kind.Syntax, inr (inl (readable, none, refl)))
-    | inl (l, spells) ↦ elim (first_failed tables d l (dec_passes tables d l)) [
+    | inl (l, spells) ↦ elim (passes_or_fails tables d l) [
       | inl passes ↦ inl (l, record { readable = readable; spells = spells; passes = passes })
       | inr (k, first) ↦ inr (k, inr (inr (readable, (l, spells, first))))
     ]

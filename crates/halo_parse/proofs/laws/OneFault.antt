@@ -1,15 +1,15 @@
 -- A file writes one contract or has one first fault, and not both.
 use Rattle.std.proofs.Common.{◌≡◌, ◌∙◌, ℕ, ◌+◌, false, List, [], ◌∷◌, ap, inl, inr, subst, sym}
 use Rattle.halo_table.specs.DecrementTable.{TableFile}
-use Rattle.halo_parse.specs.Checks.{FailsFirst, Passes}
-use Rattle.halo_parse.specs.Draft.{Draft, contract_made, empty_draft, with_line}
-use Rattle.halo_parse.specs.Faults.{FirstFaultOf, HasFault, IsFine, IsSilent, IsWhole, MakesDraft}
+use Rattle.halo_check.specs.Checks.{FailsFirst, Passes}
+use Rattle.halo_check.specs.Draft.{Draft, contract_made, empty_draft, with_line}
+use Rattle.halo_parse.specs.Faults.{FirstFaultOf, HasFault, IsFine, IsWhole, MakesDraft}
+use Rattle.halo_syntax.specs.FileLines.{IsSilent, is_silent, lines_of, words_of}
 use Rattle.halo_parse.specs.FileLaws.{ContractIsOne, FirstFaultIsOne, NoFaultIsFirst}
-use Rattle.halo_parse.specs.FileLines.{is_silent, lines_of, words_of}
-use Rattle.halo_parse.specs.Line.{Line}
-use Rattle.halo_parse.specs.declared.fault.ContractKind.{ContractKind}
-use Rattle.halo_parse.proofs.laws.CheckOrder.{first_is_one}
-use Rattle.halo_parse.proofs.lines.OneLine.{line_one}
+use Rattle.halo_syntax.specs.Line.{Line}
+use Rattle.halo_check.specs.declared.fault.ContractKind.{ContractKind}
+use Rattle.halo_check.proofs.laws.CheckOrder.{first_is_one}
+use Rattle.halo_syntax.proofs.lines.OneLine.{line_one}
 
 -- a text is silent, or it has one fault, or it is one line that has none
 module _ (tables : TableFile) (d : Draft) (text : List ℕ) where

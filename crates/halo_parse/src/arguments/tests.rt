@@ -1,4 +1,5 @@
-use crate::{ContractKind, read_fraction, read_number};
+use crate::{read_fraction, read_number};
+use halo_check::ContractKind;
 use halo_interest::Interest;
 use std::rt::HostRuntime;
 

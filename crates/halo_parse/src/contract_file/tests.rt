@@ -1,5 +1,6 @@
 // Contract files: one with every form of a line, and one for each fault.
-use crate::{ContractError, ContractFault, ContractKind, read_contract};
+use crate::{ContractError, ContractFault, read_contract};
+use halo_check::ContractKind;
 use halo_contract::{ReserveLine, Ties};
 use halo_table::{LONGEST_FILE, Tables};
 use std::rt::HostRuntime;

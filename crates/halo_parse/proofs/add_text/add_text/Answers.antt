@@ -1,4 +1,5 @@
-use Rattle.halo_parse.specs.LineView.{draft_of, plain_line}
+use Rattle.halo_syntax.specs.LineView.{plain_line}
+use Rattle.halo_check.specs.DraftView.{draft_of}
 use Rattle.halo_parse.proofs.Kept.{kept_if_ok}
 use Rattle.halo_parse.proofs.add_text.add_text.Goals as goal
 

@@ -1,5 +1,5 @@
 use Rattle.std.proofs.Common.{◌≡◌, arith, ap, inl, inr, length, refl}
-use Rattle.halo_parse.specs.LineView.{draft_of}
+use Rattle.halo_check.specs.DraftView.{draft_of}
 use Rattle.halo_parse.proofs.LineCount.{lines_few}
 use Rattle.halo_parse.proofs.Walk.{fault_found, walked}
 use Rattle.halo_parse.proofs.contract_file.read_contract.Goals as goal

@@ -1,5 +1,5 @@
 use Rattle.std.specs.Prelude.{length}
-use Rattle.halo_parse.specs.LineView.{draft_of}
+use Rattle.halo_check.specs.DraftView.{draft_of}
 use Rattle.halo_parse.proofs.Walk.{Walks}
 use Rattle.halo_parse.proofs.contract_file.read_contract.Given as goal
 

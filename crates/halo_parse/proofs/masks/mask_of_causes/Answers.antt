@@ -1,8 +1,8 @@
 -- The mask so far grows by the bit of a cause that is in the set.
 use Rattle.std.proofs.Common.{◌≡◌, ◌<◌, ◌∙◌, length, sym, ap, arith}
 use Rattle.halo_symbol.specs.SymbolView.{plain_names}
-use Rattle.halo_parse.specs.Draft.{all_names, is_among}
-use Rattle.halo_parse.proofs.MasksOfTests.{mask_with, mask_without}
+use Rattle.halo_check.specs.Draft.{all_names, is_among}
+use Rattle.halo_check.proofs.MasksOfTests.{mask_with, mask_without}
 use Rattle.halo_parse.proofs.masks.mask_of_causes.Goals as goal
 use Rattle.halo_parse.proofs.masks.mask_of_causes.Goals.{then-is_in_set, else-is_in_set}
 

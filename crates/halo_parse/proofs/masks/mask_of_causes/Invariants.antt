@@ -1,7 +1,7 @@
 use Rattle.std.proofs.Common.{◌≡◌, map, take}
 use Rattle.halo_symbol.specs.SymbolView.{plain_names}
 use Rattle.halo_sums.specs.SetMasks.{mask_of}
-use Rattle.halo_parse.specs.Draft.{all_names, is_among}
+use Rattle.halo_check.specs.Draft.{all_names, is_among}
 use Rattle.halo_parse.proofs.masks.mask_of_causes.Given as goal
 
 abbrev pub invariant-loop-cause : goal.invariant-loop-cause

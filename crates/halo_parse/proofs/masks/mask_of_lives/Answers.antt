@@ -1,10 +1,10 @@
 -- The mask so far grows by the bit of a life that is named.
 use Rattle.std.proofs.Common.{◌≡◌, ◌<◌, ◌∙◌, map, length, sym, ap, arith}
 use Rattle.std.proofs.lemmas.List.{length-map}
-use Rattle.halo_parse.specs.Draft.{is_among}
+use Rattle.halo_check.specs.Draft.{is_among}
 use Rattle.halo_contract.specs.PlainContract.{life_names}
-use Rattle.halo_parse.proofs.MasksOfTests.{mask_with, mask_without}
-use Rattle.halo_parse.proofs.PlacesOfLives.{get_or-life_names}
+use Rattle.halo_check.proofs.MasksOfTests.{mask_with, mask_without}
+use Rattle.halo_check.proofs.PlacesOfLives.{get_or-life_names}
 use Rattle.halo_parse.proofs.masks.mask_of_lives.Goals as goal
 use Rattle.halo_parse.proofs.masks.mask_of_lives.Goals.{then-is_among, else-is_among}
 

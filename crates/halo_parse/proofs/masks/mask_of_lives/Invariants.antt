@@ -1,6 +1,6 @@
 use Rattle.std.proofs.Common.{◌≡◌, map, take}
 use Rattle.halo_sums.specs.SetMasks.{mask_of}
-use Rattle.halo_parse.specs.Draft.{is_among}
+use Rattle.halo_check.specs.Draft.{is_among}
 use Rattle.halo_contract.specs.PlainContract.{life_names}
 use Rattle.halo_parse.proofs.masks.mask_of_lives.Given as goal
 

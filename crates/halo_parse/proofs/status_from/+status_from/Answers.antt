@@ -6,9 +6,9 @@ use Rattle.halo_symbol.proofs.Shapes.{plain_body-List, plain_body-Reversion, pla
 use Rattle.halo_symbol.specs.StatusOf.{trees_of_members}
 use Rattle.halo_symbol.specs.View.{members_of, plain_body, plain_node}
 use Rattle.halo_symbol.specs.declared.tree.Node.{the_lemmas}
-use Rattle.halo_parse.specs.Draft.{place_of}
+use Rattle.halo_check.specs.Draft.{place_of}
 use Rattle.halo_contract.specs.PlainContract.{life_names}
-use Rattle.halo_parse.proofs.BodyParts.{member_count-members_of}
+use Rattle.halo_check.proofs.BodyParts.{member_count-members_of}
 use Rattle.halo_parse.proofs.PutTogether.{joint_of_more, one_member_more}
 use Rattle.halo_parse.proofs.UsableParts.{usable-at_least, usable-exactly, usable-first, usable-front, usable-last, usable-list, usable-other, usable-then}
 use Rattle.halo_parse.proofs.status_from.+status_from.Goals as goal

@@ -3,7 +3,7 @@ use Rattle.std.proofs.Common.{◌≡◌, ◌+◌, length, take}
 use Rattle.halo_status.specs.StatusTree.{trees_in}
 use Rattle.halo_symbol.specs.StatusOf.{trees_of_members}
 use Rattle.halo_symbol.specs.View.{members_of, plain_node}
-use Rattle.halo_parse.specs.Draft.{place_of}
+use Rattle.halo_check.specs.Draft.{place_of}
 use Rattle.halo_contract.specs.PlainContract.{life_names}
 use Rattle.halo_parse.proofs.status_from.+status_from.Given as goal
 

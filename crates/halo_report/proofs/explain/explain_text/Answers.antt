@@ -3,7 +3,7 @@ use Rattle.std.proofs.Common.{◌≡◌, ◌++◌, ◌<◌, [], arith, length}
 use Rattle.std.specs.Prelude.{All, get_or}
 use Rattle.halo_contract.specs.PlainContract.{life_names}
 use Rattle.halo_contract.specs.ValidContract.{IsValidAmong}
-use Rattle.halo_parse.proofs.Each.{each_at}
+use Rattle.halo_check.proofs.Each.{each_at}
 use Rattle.halo_status.specs.Pay.{pay_of}
 use Rattle.halo_lines.specs.Parts.{IsPrintablePart, parts_of}
 use Rattle.halo_report.specs.ExplainText.{part_lines}

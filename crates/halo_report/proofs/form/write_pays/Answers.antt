@@ -1,5 +1,5 @@
 use Rattle.std.proofs.Common.{◌≡◌, ◌++◌, ◌<◌, [], arith, length}
-use Rattle.halo_parse.proofs.Each.{each_at}
+use Rattle.halo_check.proofs.Each.{each_at}
 use Rattle.halo_contract.specs.PlainContract.{life_names}
 use Rattle.halo_status.specs.Pay.{pay_of}
 use Rattle.halo_contract.specs.ValidContract.{IsValidAmong}

@@ -1,6 +1,6 @@
 -- What holds of all pays holds of each.
 use Rattle.std.proofs.Common.{length}
-use Rattle.halo_parse.proofs.Each.{each_at}
+use Rattle.halo_check.proofs.Each.{each_at}
 use Rattle.halo_status.specs.Pay.{pay_of}
 use Rattle.halo_contract.specs.ValidContract.{IsValidAmong}
 use Rattle.halo_spell.proofs.lines.write_pays.Goals as goal

@@ -4,7 +4,7 @@ use Rattle.std.specs.Prelude.{All}
 use Rattle.halo_status.specs.Pay.{pay_of}
 use Rattle.halo_contract.specs.PlainContract.{contract_of}
 use Rattle.halo_contract.specs.ValidContract.{IsValidAmong}
-use Rattle.halo_parse.proofs.Each.{each_at}
+use Rattle.halo_check.proofs.Each.{each_at}
 use Rattle.halo_spell.proofs.Spellable.{contracts_are_spellable}
 use Rattle.halo_spell.proofs.tests.spelled.Goals as goal
 

@@ -1,0 +1,5 @@
+pub mod CheckOrder
+pub mod Deciding
+pub mod DecidingParts
+pub mod DecidingStatuses
+pub mod DecidingChecks

@@ -1,0 +1,36 @@
+// Numbers that are known to be within a limit.
+ghost use Rattle.std.specs.Prelude.{◌≡◌};
+ghost use Rattle.halo_text.specs.Number.{IsNumber, number};
+ghost use Rattle.halo_check.specs.Limits.{IsUpTo};
+
+use halo_text::number_up_to;
+
+/// The number that digits write, which is at most `limit`.
+pub fn number_within(digits: &[u8], limit: u64) -> u64
+    requires number { IsNumber digits.now }
+    requires within { IsUpTo limit digits.now }
+    ensures { result ≡ number digits.now }
+{
+    match number_up_to(digits, limit) {
+        Ok(value) => value,
+        Err(_) => unreachable!(),
+    }
+}
+
+/// The years that digits write, which are at most 200.
+pub fn years_within(digits: &[u8]) -> u16
+    requires number { IsNumber digits.now }
+    requires within { IsUpTo 200 digits.now }
+    ensures { result ≡ number digits.now }
+{
+    number_within(digits, 200) as u16
+}
+
+/// The rank that digits write, which is at most 64.
+pub fn rank_within(digits: &[u8]) -> u8
+    requires number { IsNumber digits.now }
+    requires within { IsUpTo 64 digits.now }
+    ensures { result ≡ number digits.now }
+{
+    number_within(digits, 64) as u8
+}

@@ -1,7 +1,0 @@
-use Rattle.std.specs.Prelude.{All, map, take}
-use Rattle.halo_parse.specs.Checks.{IsSome}
-use Rattle.halo_parse.specs.LineView.{plain_rate}
-use Rattle.halo_parse.proofs.checks.have_no_zero.Given as goal
-
-abbrev pub invariant-loop-rate : goal.invariant-loop-rate
-invariant-loop-rate l = All (λ rate. IsSome rate.year × IsSome rate.q) (map plain_rate (take l.rate-index l.rates))

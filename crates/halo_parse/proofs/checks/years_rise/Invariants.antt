@@ -1,7 +1,0 @@
-use Rattle.std.specs.Prelude.{◌+◌, ◌<◌, ℕ, map}
-use Rattle.halo_parse.specs.Checks.{year_at}
-use Rattle.halo_parse.specs.LineView.{plain_rate}
-use Rattle.halo_parse.proofs.checks.years_rise.Given as goal
-
-abbrev pub invariant-loop-place : goal.invariant-loop-place
-invariant-loop-place l = (i : ℕ) → i + 1 < l.place → year_at (map plain_rate l.rates) i < year_at (map plain_rate l.rates) (i + 1)

@@ -1,5 +1,0 @@
-use Rattle.halo_parse.proofs.lines.OneLine.{line_one}
-use Rattle.halo_parse.proofs.laws.line_is_one.Goals as goal
-
-pub returns : goal.returns
-returns c = line_one

@@ -1,0 +1,140 @@
+// What a line adds to a contract, put together in memory.
+ghost use Rattle.std.specs.Prelude.{◌≡◌, ◌≤◌, ◌<◌, ◌∷◌, ◌^◌, All, Contains, IfOk, length, map};
+ghost use Rattle.halo_text.specs.Number.{IsNumber, number};
+ghost use Rattle.halo_table.specs.DecrementTable.{names_of};
+ghost use Rattle.halo_check.specs.Addition.{Adds, IsKept};
+ghost use Rattle.halo_check.specs.Checks.{IsSome, YearsRise};
+ghost use Rattle.halo_check.specs.Draft.{place_of, rate_from};
+ghost use Rattle.halo_contract.specs.PlainContract.{life_names};
+ghost use Rattle.halo_check.specs.Limits.{IsRateWithin, IsShortName, IsUpTo};
+ghost use Rattle.halo_syntax.specs.LineView.{plain_line, plain_rate};
+ghost use Rattle.halo_check.specs.DraftView.{draft_of};
+ghost use Rattle.halo_syntax.specs.ProperLine.{IsProperLine, IsProperRate};
+ghost use Rattle.halo_check.specs.Checked.{PassesBefore};
+ghost use Rattle.halo_status.specs.Pay.{pay_of};
+ghost use Rattle.halo_contract.specs.Premium.{premium_pay};
+ghost use Rattle.halo_symbol.specs.Proper.{IsPlainName};
+ghost use Rattle.halo_symbol.specs.StatusOf.{tree_of_body};
+ghost use Rattle.halo_symbol.specs.View.{plain_body};
+ghost use Rattle.halo_parse.specs.Usable.{IsUsableBody};
+
+use crate::masks::mask_of_lives;
+use crate::pay_from::pay_from;
+use crate::status_from::status_from;
+use halo_check::{
+    Addition, ContractKind, Draft, GREATEST_PART, Memory, age_of, number_within, place_of_table,
+    years_within,
+};
+use halo_contract::{LifeLine, ReserveLine, Ties};
+use halo_interest::Interest;
+use halo_status::{Kind, Pay, Vary};
+use halo_symbol::Body;
+use halo_syntax::{LaterRate, Line};
+use halo_table::{Life, Name, Tables};
+use std::alloc::Global;
+
+/// What a line adds that passes the checks before `Rank`.
+pub fn addition_from(
+    alloc: Global,
+    tables: &Tables,
+    draft: &Draft,
+    line: &Line<'_>,
+) -> Result<Addition, Memory>
+    requires proper { IsProperLine (plain_line line.now) }
+    requires passes { PassesBefore tables.now (draft_of draft.now) (plain_line line.now)
+        ContractKind.Rank }
+    requires kept { IsKept tables.now (draft_of draft.now) }
+    ensures { IfOk result (Adds tables.now (draft_of draft.now) (plain_line line.now)) }
+{
+    match line {
+        Line::Interest { p, q, later } => Ok(Addition::Interest(interest_from(p, q, later))),
+        Line::Life { name, table, age } => {
+            Ok(Addition::Life(life_from(tables, name, table, age)))
+        }
+        Line::Ties(ties) => Ok(Addition::Ties(*ties)),
+        Line::Pay { amount, symbol } => Ok(Addition::Pay(pay_from(
+            alloc,
+            amount,
+            symbol,
+            &draft.lives,
+            tables,
+        )?)),
+        Line::Premium(body) => Ok(Addition::Premium(premium_from(alloc, body, &draft.lives)?)),
+        Line::Reserve { time, names } => Ok(Addition::Reserve(ReserveLine {
+            time: years_within(time),
+            alive: mask_of_lives(&draft.lives, names),
+        })),
+    }
+}
+
+// The interest of a first fraction and later ones.
+fn interest_from(p: &[u8], q: &[u8], later: &[LaterRate<'_>]) -> Interest
+    requires p { IsNumber p.now }
+    requires p_within { IsUpTo (10 ^ 9) p.now }
+    requires q { IsNumber q.now }
+    requires q_within { IsUpTo (10 ^ 9) q.now }
+    requires q_some { IsSome q.now }
+    requires proper { All IsProperRate (map plain_rate later.now) }
+    requires within { All IsRateWithin (map plain_rate later.now) }
+    requires some { All (λ rate. IsSome rate.year × IsSome rate.q) (map plain_rate later.now) }
+    requires rise { YearsRise (map plain_rate later.now) }
+    requires few { length later.now < 8 }
+    ensures { result ≡ record { year = 0; p = number p.now; q = number q.now }
+        ∷ map rate_from (map plain_rate later.now) }
+{
+    let Some(mut interest) = Interest::new(
+        number_within(p, GREATEST_PART),
+        number_within(q, GREATEST_PART),
+    ) else {
+        unreachable!()
+    };
+    for rate in later {
+        let year = number_within(rate.year, 199) as u16;
+        let p = number_within(rate.p, GREATEST_PART);
+        let q = number_within(rate.q, GREATEST_PART);
+        if interest.add_from(year, p, q).is_none() {
+            unreachable!();
+        }
+    }
+    interest
+}
+
+// The life of a name, a table and an age.
+fn life_from(tables: &Tables, name: &[u8], table: &[u8], age: &[u8]) -> LifeLine
+    requires name { IsPlainName name.now }
+    requires short { IsShortName name.now }
+    requires table { Contains (names_of tables.now.tables) table.now }
+    requires number { IsNumber age.now }
+    requires age { IsUpTo 150 age.now }
+    ensures { let place = place_of (names_of tables.now.tables) table.now in
+        result ≡ record { name = name.now; life = record { table = place; age = number age.now } } }
+{
+    match (Name::new(name), place_of_table(tables, table)) {
+        (Some(name), Some(table)) => LifeLine {
+            name,
+            life: Life {
+                table,
+                age: age_of(age),
+            },
+        },
+        _ => unreachable!(),
+    }
+}
+
+// What a premium of 1 pays, on the status that is written.
+fn premium_from(alloc: Global, body: &Body<'_>, lives: &[LifeLine]) -> Result<Pay, Memory>
+    requires usable { IsUsableBody (life_names lives.now) (plain_body body.now) }
+    requires few { length lives.now ≤ 12 }
+    ensures { IfOk result (λ pay. pay_of pay
+        ≡ premium_pay (tree_of_body (place_of (life_names lives.now)) (plain_body body.now))) }
+{
+    Ok(Pay {
+        amount: 1,
+        vary: Vary::Level,
+        kind: Kind::Due,
+        defer: 0,
+        causes: None,
+        body: status_from(alloc, body, lives)?,
+        mark: None,
+    })
+}

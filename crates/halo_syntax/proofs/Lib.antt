@@ -1,0 +1,3 @@
+pub mod Texts
+pub mod Rates
+pub mod lines

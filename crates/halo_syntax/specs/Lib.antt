@@ -1,0 +1,9 @@
+pub mod FileLines
+pub mod Depth
+pub mod Line
+pub mod ProperLine
+pub mod Forms
+pub mod LineView
+pub mod LinesLeft
+pub mod LineReading
+pub mod LineLaws
