@@ -30,7 +30,8 @@ either b true d e = ((λ t. inl refl), (λ h. e))
 either b false d e = ((λ t. inr (sym e ∙ t)), (λ h. elim h [ inl t ↦ cc t | inr t ↦ e ∙ t ]))
 
 -- a set to which a name is added has it and what it had before
-one_more : (old new : BTreeSet (Bor (List ℕ))) (added : Bor (List ℕ)) → Updates name_order old new added true → (name : List ℕ) → IsIn new name ↔ ((added.now ≡ name) ⊎ IsIn old name)
+one_more : (old new : BTreeSet (Bor (List ℕ))) (added : Bor (List ℕ)) → Updates name_order old new added true
+    → (name : List ℕ) → IsIn new name ↔ ((added.now ≡ name) ⊎ IsIn old name)
 one_more old new added updates name =
     let is = either _ _ _ (updates.0 (record { ref_ptr = (0, 0); now = name })) in
     let same = bytes_eq-Decides added.now name in
@@ -40,14 +41,17 @@ one_more old new added updates name =
     )
 
 -- a name that is in the set already is equal to an earlier one
-pub same_again : (names : List (List ℕ)) (place : ℕ) (set : BTreeSet (Bor (List ℕ))) (name : Bor (List ℕ)) → AreApart names place set → name.now ≡ get_or names place []
-    → false ≡ not (contains name_order set name) → ((i : ℕ) → i < place → get_or names i [] ≡ get_or names place [] → ⊥) → ⊥
+pub same_again : (names : List (List ℕ)) (place : ℕ) (set : BTreeSet (Bor (List ℕ))) (name : Bor (List ℕ))
+    → AreApart names place set → name.now ≡ get_or names place []
+    → false ≡ not (contains name_order set name) → ((i : ℕ) → i < place → get_or names i [] ≡ get_or names place [] → ⊥)
+    → ⊥
 same_again names place set name so_far is old new =
     let (j, before, same) = so_far.found name.now (grind (arith, old)) in
     new j before (same ∙ is)
 
 -- one more name is apart from those before it
-pub apart_more : (names : List (List ℕ)) (place : ℕ) (old new : BTreeSet (Bor (List ℕ))) (name : Bor (List ℕ)) → AreApart names place old → name.now ≡ get_or names place []
+pub apart_more : (names : List (List ℕ)) (place : ℕ) (old new : BTreeSet (Bor (List ℕ))) (name : Bor (List ℕ))
+    → AreApart names place old → name.now ≡ get_or names place []
     → true ≡ not (contains name_order old name) → Updates name_order old new name true → AreApart names (place + 1) new
 apart_more names place old new name so_far is unread updates =
     let more = one_more old new name updates in
@@ -55,7 +59,10 @@ apart_more names place old new name so_far is unread updates =
       apart = (λ i j before lt. below_more (λ k. (i : ℕ) → i < k → get_or names i [] ≡ get_or names k [] → ⊥) place
           (λ k here i first. so_far.apart i k first here)
           (λ i first same. absurd (cc (rw (same ∙ sym is) at (so_far.kept i first), unread))) j lt i before);
-      kept = (λ j lt. below_more (λ k. IsIn new (get_or names k [])) place (λ k before. (more (get_or names k [])).1 (inr (so_far.kept k before))) ((more (get_or names place [])).1 (inl is)) j lt);
+      kept =
+          (λ j lt. below_more (λ k. IsIn new (get_or names k [])) place
+          (λ k before. (more (get_or names k [])).1 (inr (so_far.kept k before)))
+          ((more (get_or names place [])).1 (inl is)) j lt);
       found = (λ text t. elim ((more text).0 t) [
         | inl e ↦ (place, omega arith, sym is ∙ e)
         | inr s ↦ let (j, before, same) = so_far.found text s in (j, omega arith, same)

@@ -44,7 +44,8 @@ ShareNoTerm-more t s ms = (
 )
 
 -- two members in memory share nothing where a test tells so
-module _ (ss : List Status) (p q : ℕ) (s t : Status) (at_p : slice_get ss p ≡ Some s) (at_q : slice_get ss q ≡ Some t) (b : Bool) (tells : IsTrue b ↔ SharesNothing (tree_of s) (tree_of t)) where
+module _ (ss : List Status) (p q : ℕ) (s t : Status) (at_p : slice_get ss p ≡ Some s) (at_q : slice_get ss q ≡ Some t)
+    (b : Bool) (tells : IsTrue b ↔ SharesNothing (tree_of s) (tree_of t)) where
   pub apart_at : b ≡ true → AreApartAt (trees_in ss) p q
   apart_at passed u v at_u at_v =
       let s_is : tree_of s ≡ u = cc (member_at-trees_in ss p s at_p) in
@@ -52,19 +53,24 @@ module _ (ss : List Status) (p q : ℕ) (s t : Status) (at_p : slice_get ss p �
       rw (s_is, t_is) at (tells.0 passed)
 
   pub not_apart_at : b ≡ false → AreApartAt (trees_in ss) p q → IsTrue false
-  not_apart_at failed apart = sym failed ∙ tells.1 (apart _ _ (member_at-trees_in ss p s at_p) (member_at-trees_in ss q t at_q))
+  not_apart_at failed apart =
+      sym failed ∙ tells.1 (apart _ _ (member_at-trees_in ss p s at_p) (member_at-trees_in ss q t at_q))
 
 turned : (s t : Tree) → SharesNothing s t → SharesNothing t s
-turned s t apart = record { lives = (λ i in_t in_s. apart.lives i in_s in_t); terms = (λ n in_t in_s. apart.terms n in_s in_t) }
+turned s t apart =
+    record { lives = (λ i in_t in_s. apart.lives i in_s in_t); terms = (λ n in_t in_s. apart.terms n in_s in_t) }
 
 -- members are apart where each shares nothing with those before it
 module _ (ms : Trees) where
-  by_order : ((later : ℕ) → later < member_count ms → IsApartAt ms later) → (p q : ℕ) (s t : Tree) → member_at ms p ≡ Some s → member_at ms q ≡ Some t → p ≢ q → (p < q) ⊎ (q ≤ p) → SharesNothing s t
+  by_order : ((later : ℕ) → later < member_count ms → IsApartAt ms later) → (p q : ℕ) (s t : Tree)
+      → member_at ms p ≡ Some s → member_at ms q ≡ Some t → p ≢ q → (p < q) ⊎ (q ≤ p) → SharesNothing s t
   by_order each p q s t at_p at_q differ (inl before) = each q (member_at-lt ms q t at_q) p before s t at_p at_q
-  by_order each p q s t at_p at_q differ (inr behind) = turned t s (each p (member_at-lt ms p s at_p) q (omega arith) t s at_q at_p)
+  by_order each p q s t at_p at_q differ (inr behind) =
+      turned t s (each p (member_at-lt ms p s at_p) q (omega arith) t s at_q at_p)
 
   pub apart_at_each : ((later : ℕ) → later < member_count ms → IsApartAt ms later) → AreApart ms
   apart_at_each each p q s t differ at_p at_q = by_order each p q s t at_p at_q differ (cases_lt p q)
 
   pub apart_before : AreApart ms → (later : ℕ) → IsApartAt ms later
-  apart_before apart later earlier before s t at_earlier at_later = apart earlier later s t (λ same. absurd (omega (arith, same))) at_earlier at_later
+  apart_before apart later earlier before s t at_earlier at_later =
+      apart earlier later s t (λ same. absurd (omega (arith, same))) at_earlier at_later

@@ -18,11 +18,13 @@ use Rattle.halo_syntax.specs.Line.{Line, interest, life, ties, pay, premium, res
 use Rattle.halo_check.specs.declared.addition.Addition.TheVariants as addition
 use Rattle.halo_check.proofs.SameLives.{exists-all}
 
-pub start_told : (tables : TableFile) (d : Draft) (l : Line) (p : Pay) (found : Bool) → Adds tables d l (addition.Premium p) → NamesLivesBelow 16 (tree_of p.body)
+pub start_told : (tables : TableFile) (d : Draft) (l : Line) (p : Pay) (found : Bool)
+    → Adds tables d l (addition.Premium p) → NamesLivesBelow 16 (tree_of p.body)
     → found ≡ exists (has_bit 65535) (is_on Due 0) (tree_of p.body) → IsTrue found ↔ ExistsAtStart d l
 start_told tables d (premium status) p found adds below told =
     let same : tree_of p.body ≡ status_tree d status = ap (λ (plain : PlainPay). plain.body) adds in
-    let exact : found ≡ exists all_lives (is_on Due 0) (status_tree d status) = told ∙ exists-all (is_on Due 0) (tree_of p.body) below ∙ ap (exists all_lives (is_on Due 0)) same in
+    let exact : found ≡ exists all_lives (is_on Due 0) (status_tree d status) =
+    told ∙ exists-all (is_on Due 0) (tree_of p.body) below ∙ ap (exists all_lives (is_on Due 0)) same in
     (λ h. sym exact ∙ h, λ h. exact ∙ h)
 start_told tables d (interest first q rates) p found adds below told = absurd adds
 start_told tables d (life name table age) p found adds below told = absurd adds

@@ -31,13 +31,15 @@ member_count-members_of first [] = refl
 member_count-members_of first (m ∷ ms) = omega (arith, member_count-members_of (plain_node m) ms)
 
 -- the members of a list are the first and those behind it
-pub AreProper-members_of : (first : plain.Node) (ms : List Node) → AreProper (members_of first ms) → IsProper first × AllProper ms
+pub AreProper-members_of : (first : plain.Node) (ms : List Node) → AreProper (members_of first ms)
+    → IsProper first × AllProper ms
 AreProper-members_of first [] h = (h, All-nil (λ m. IsProper (plain_node m)))
 AreProper-members_of first (m ∷ ms) h =
     let rest = AreProper-members_of (plain_node m) ms h.1 in
     (h.0, All-cons (λ m. IsProper (plain_node m)) m ms rest.0 rest.1)
 
-pub AtEachMember-members_of : (P : plain.Node → Type 0) (Q : plain.Members → Type 0) (first : plain.Node) (ms : List Node)
+pub AtEachMember-members_of : (P : plain.Node → Type 0) (Q : plain.Members → Type 0) (first : plain.Node)
+    (ms : List Node)
     → AtEachMember P Q (members_of first ms) ↔ (AtEach P Q first × AllHave P Q ms)
 AtEachMember-members_of P Q first [] = ((λ h. (h, All-nil (λ m. AtEach P Q (plain_node m)))), (λ h. h.0))
 AtEachMember-members_of P Q first (m ∷ ms) =

@@ -17,7 +17,8 @@ nodes_of f m = nodes (tree_of_node f (plain_node m))
 pub nodes_in-members_of : (f : List ℕ → ℕ) (first : plain.Node) (ms : List Node)
     → nodes_in (trees_of_members f (members_of first ms)) ≡ nodes (tree_of_node f first) + sum_by (nodes_of f) ms
 nodes_in-members_of f first [] = refl
-nodes_in-members_of f first (m ∷ ms) = omega (arith, nodes_in-members_of f (plain_node m) ms, sum_by-cons (nodes_of f) m ms)
+nodes_in-members_of f first (m ∷ ms) =
+    omega (arith, nodes_in-members_of f (plain_node m) ms, sum_by-cons (nodes_of f) m ms)
 
 -- a list of two or more members has one node more than they have
 pub nodes-joint : (f : List ℕ → ℕ) (first : plain.Node) (ms : List Node) → 0 < length ms
@@ -35,7 +36,8 @@ mutual
   nodes-tree_of_node f g (exactly rank ms) = omega (arith, nodes_in-trees_of_members f g ms)
   nodes-tree_of_node f g (group body) = nodes-tree_of_body f g body
 
-  nodes_in-trees_of_members : (f g : List ℕ → ℕ) (ms : plain.Members) → nodes_in (trees_of_members f ms) ≡ nodes_in (trees_of_members g ms)
+  nodes_in-trees_of_members : (f g : List ℕ → ℕ) (ms : plain.Members)
+      → nodes_in (trees_of_members f ms) ≡ nodes_in (trees_of_members g ms)
   nodes_in-trees_of_members f g (one m) = omega (arith, nodes-tree_of_node f g m)
   nodes_in-trees_of_members f g (and m ms) = omega (arith, nodes-tree_of_node f g m, nodes_in-trees_of_members f g ms)
 
@@ -43,14 +45,16 @@ mutual
   nodes-tree_of_list f g (one m) = nodes-tree_of_node f g m
   nodes-tree_of_list f g (and m ms) = omega (arith, nodes-tree_of_node f g m, nodes_in-trees_of_members f g ms)
 
-  pub nodes-tree_of_body : (f g : List ℕ → ℕ) (body : plain.Body) → nodes (tree_of_body f body) ≡ nodes (tree_of_body g body)
+  pub nodes-tree_of_body : (f g : List ℕ → ℕ) (body : plain.Body)
+      → nodes (tree_of_body f body) ≡ nodes (tree_of_body g body)
   nodes-tree_of_body f g (list ms) = nodes-tree_of_list f g ms
   nodes-tree_of_body f g (reversion ms ns) = omega (arith, nodes-tree_of_list f g ms, nodes-tree_of_list f g ns)
 
 pub nodes-tree_of_symbol : (f g : List ℕ → ℕ) (s : Symbol) → nodes (tree_of_symbol f s) ≡ nodes (tree_of_symbol g s)
 nodes-tree_of_symbol f g s = content s.mark s.body
   where
-    content : (mark : Option Mark) (body : plain.Body) → nodes (tree_of_content f mark body) ≡ nodes (tree_of_content g mark body)
+    content : (mark : Option Mark) (body : plain.Body)
+        → nodes (tree_of_content f mark body) ≡ nodes (tree_of_content g mark body)
     content None body = nodes-tree_of_body f g body
     content (Some mark) (list ms) = omega (arith, nodes_in-trees_of_members f g ms)
     content (Some mark) (reversion ms ns) = nodes-tree_of_body f g (reversion ms ns)

@@ -29,10 +29,12 @@ one_form : (f g : Form) → place_of_form f ≡ place_of_form g → f ≡ g
 one_form f g e = sym (form_at-place f) ∙ ap form_at e ∙ form_at-place g
 
 -- a form is in order where the next one did not come before and is in order itself
-pub order_from_next : (d : Draft) (f g : Form) → place_of_form g ≡ place_of_form f + 1 → (CameBefore d g → ⊥) → IsInOrder d g → IsInOrder d f
+pub order_from_next : (d : Draft) (f g : Form) → place_of_form g ≡ place_of_form f + 1 → (CameBefore d g → ⊥)
+    → IsInOrder d g → IsInOrder d f
 order_from_next d f g next none order earlier came =
     let within = order earlier came in
-    let other : place_of_form earlier ≢ place_of_form g = (λ e. none (subst (CameBefore d) (one_form earlier g e) came)) in
+    let other : place_of_form earlier ≢ place_of_form g =
+    (λ e. none (subst (CameBefore d) (one_form earlier g e) came)) in
     omega (arith, within, next, other)
 
 pub most_place : (f : Form) → place_of_form f ≤ 5

@@ -12,11 +12,13 @@ use Rattle.halo_contract.specs.declared.contract.LifeLine.{LifeLine}
 use Rattle.halo_check.proofs.Tests.{some_iff}
 
 -- a name that stands at a place is among the names
-pub among_at : (names : List (List ℕ)) (name : List ℕ) (p : ℕ) → p < length names → get_or names p [] ≡ name → Contains names name
+pub among_at : (names : List (List ℕ)) (name : List ℕ) (p : ℕ) → p < length names → get_or names p [] ≡ name
+    → Contains names name
 among_at names name p lt at = (p, lt, get_or_default names p name [] lt ∙ at)
 
 -- and where it stands at none, it is not
-pub not_among : (names : List (List ℕ)) (name : List ℕ) → ((p : ℕ) → p < length names → get_or names p [] ≢ name) → Contains names name → ⊥
+pub not_among : (names : List (List ℕ)) (name : List ℕ) → ((p : ℕ) → p < length names → get_or names p [] ≢ name)
+    → Contains names name → ⊥
 not_among names name none (p, lt, at) = none p lt (get_or_default names p [] name lt ∙ at)
 
 -- texts that differ are told apart
@@ -32,18 +34,21 @@ pub place_is : (names : List (List ℕ)) (name : List ℕ) (p : ℕ) → p < len
     → ((q : ℕ) → q < length names → get_or names q [] ≡ name → q ≡ p) → p ≡ place_of names name
 place_is names name p lt at only =
     sym (position_or_len_is (λ other. bytes_eq other name) names p [] (omega arith)
-    (λ k below. differ (get_or names k []) name (λ e. let same = only k (omega arith) e in absurd (omega (arith, same))))
+    (λ k below. differ (get_or names k []) name
+    (λ e. let same = only k (omega arith) e in absurd (omega (arith, same))))
     (λ within. (bytes_eq-Decides (get_or names p []) name).1 at))
 
 -- the place of each table's name
-name_at : (tables : TableFile) (p : ℕ) → p < length tables.tables → get_or (names_of tables.tables) p [] ≡ name_of tables p
+name_at : (tables : TableFile) (p : ℕ) → p < length tables.tables
+    → get_or (names_of tables.tables) p [] ≡ name_of tables p
 name_at tables p lt = get_or-map (λ (t : DecrementTable). t.name) tables.tables p empty_table [] lt
 
 count_of_names : (tables : TableFile) → length (names_of tables.tables) ≡ length tables.tables
 count_of_names tables = length-map tables.tables (λ (t : DecrementTable). t.name)
 
 -- the place that a look-up finds is that of the name
-pub table_at : (tables : TableFile) (name : List ℕ) (found : Option ℕ) → IfSome found (λ p. (p < length tables.tables) × (name_of tables p ≡ name))
+pub table_at : (tables : TableFile) (name : List ℕ) (found : Option ℕ)
+    → IfSome found (λ p. (p < length tables.tables) × (name_of tables p ≡ name))
     → IfSome found (λ p. (other : ℕ) → other < length tables.tables → name_of tables other ≡ name → other ≡ p)
     → IfSome found (λ p. (p ≡ place_of (names_of tables.tables) name) × (p < length tables.tables))
 table_at tables name None at only = tt
@@ -54,31 +59,45 @@ table_at tables name (Some p) at only = (
 )
 
 -- and where it finds none, the name is not among those of the tables
-pub no_table_at : (tables : TableFile) (name : List ℕ) (found : Option ℕ) → IfNone found ((p : ℕ) → p < length tables.tables → name_of tables p ≢ name) → IfNone found (Contains (names_of tables.tables) name → ⊥)
-no_table_at tables name None none = not_among (names_of tables.tables) name (λ p lt e. let within = rw (count_of_names tables) at lt in none p within (sym (name_at tables p within) ∙ e))
+pub no_table_at : (tables : TableFile) (name : List ℕ) (found : Option ℕ)
+    → IfNone found ((p : ℕ) → p < length tables.tables → name_of tables p ≢ name)
+    → IfNone found (Contains (names_of tables.tables) name → ⊥)
+no_table_at tables name None none =
+    not_among (names_of tables.tables) name (λ p lt e. let within = rw (count_of_names tables) at lt in none p within
+    (sym (name_at tables p within) ∙ e))
 no_table_at tables name (Some p) none = tt
 
 -- a name whose place is one of theirs is among the names
 pub among_if_placed : (names : List (List ℕ)) (name : List ℕ) → place_of names name < length names → Contains names name
 among_if_placed names name lt =
-    among_at names name (place_of names name) lt ((bytes_eq-Decides _ name).0 (passes_at_first (λ other. bytes_eq other name) names [] lt))
+    among_at names name (place_of names name) lt
+    ((bytes_eq-Decides _ name).0 (passes_at_first (λ other. bytes_eq other name) names [] lt))
 
 -- a name at whose place a table has a row is among those of the tables
-pub among_of_row : (tables : TableFile) (name : List ℕ) (age : ℕ) → HasRow tables (place_of (names_of tables.tables) name) age → Contains (names_of tables.tables) name
-among_of_row tables name age row = among_if_placed (names_of tables.tables) name (rw (count_of_names tables) row.table_in)
+pub among_of_row : (tables : TableFile) (name : List ℕ) (age : ℕ)
+    → HasRow tables (place_of (names_of tables.tables) name) age → Contains (names_of tables.tables) name
+among_of_row tables name age row =
+    among_if_placed (names_of tables.tables) name (rw (count_of_names tables) row.table_in)
 
 -- what a look-up of a table, a cause or a life finds tells whether the name is among them
-pub table_told : (tables : TableFile) (name : List ℕ) (found : Option ℕ) → IfSome found (λ p. (p ≡ place_of (names_of tables.tables) name) × (p < length tables.tables))
-    → IfNone found (Contains (names_of tables.tables) name → ⊥) → IsTrue (is_some found) ↔ Contains (names_of tables.tables) name
+pub table_told : (tables : TableFile) (name : List ℕ) (found : Option ℕ)
+    → IfSome found (λ p. (p ≡ place_of (names_of tables.tables) name) × (p < length tables.tables))
+    → IfNone found (Contains (names_of tables.tables) name → ⊥) → IsTrue (is_some found) ↔ Contains
+    (names_of tables.tables) name
 table_told tables name found some none =
-    some_iff found _ (λ p at. among_if_placed (names_of tables.tables) name (rw (← at.0, count_of_names tables) at.1)) some none
+    some_iff found _ (λ p at. among_if_placed (names_of tables.tables) name (rw (← at.0, count_of_names tables) at.1))
+    some none
 
-pub cause_told : (tables : TableFile) (name : List ℕ) (found : Option ℕ) → IfSome found (λ p. (p < length tables.causes) × (cause_of tables p ≡ name))
-    → IfNone found ((p : ℕ) → p < length tables.causes → cause_of tables p ≢ name) → IsTrue (is_some found) ↔ Contains tables.causes name
+pub cause_told : (tables : TableFile) (name : List ℕ) (found : Option ℕ)
+    → IfSome found (λ p. (p < length tables.causes) × (cause_of tables p ≡ name))
+    → IfNone found ((p : ℕ) → p < length tables.causes → cause_of tables p ≢ name) → IsTrue (is_some found) ↔ Contains
+    tables.causes name
 cause_told tables name None some none = (λ h. absurd cc, λ among. absurd (not_among tables.causes name none among))
 cause_told tables name (Some p) some none = (λ h. among_at tables.causes name p some.0 some.1, λ among. refl)
 
-pub life_told : (lives : List LifeLine) (name : List ℕ) (found : Option ℕ) → IfSome found (λ p. (p ≡ place_of (life_names lives) name) × (p < length lives))
+pub life_told : (lives : List LifeLine) (name : List ℕ) (found : Option ℕ)
+    → IfSome found (λ p. (p ≡ place_of (life_names lives) name) × (p < length lives))
     → IfNone found (Contains (life_names lives) name → ⊥) → IsTrue (is_some found) ↔ Contains (life_names lives) name
 life_told lives name found some none =
-    some_iff found _ (λ p at. among_if_placed (life_names lives) name (rw (← at.0, length-map lives (λ (line : LifeLine). line.name)) at.1)) some none
+    some_iff found _ (λ p at. among_if_placed (life_names lives) name
+    (rw (← at.0, length-map lives (λ (line : LifeLine). line.name)) at.1)) some none

@@ -15,27 +15,39 @@ abbrev pub NoneBefore : List (List ℕ) → ℕ → List ℕ → Type 0
 NoneBefore names place name = (k : ℕ) → k < place → get_or names k [] ≡ name → ⊥
 
 -- the name of the life at a place
-pub get_or-life_names : (lives : List LifeLine) (place : ℕ) (line : LifeLine) → place < length lives → line ≡ get_or lives place line → get_or (life_names lives) place [] ≡ line.name
-get_or-life_names lives place line lt is = get_or-map (λ other. other.name) lives place line [] lt ∙ ap (λ other. other.name) (sym is)
+pub get_or-life_names : (lives : List LifeLine) (place : ℕ) (line : LifeLine) → place < length lives
+    → line ≡ get_or lives place line → get_or (life_names lives) place [] ≡ line.name
+get_or-life_names lives place line lt is =
+    get_or-map (λ other. other.name) lives place line [] lt ∙ ap (λ other. other.name) (sym is)
 
 -- the first place that has the name is the name's
-pub place_of-first : (names : List (List ℕ)) (place : ℕ) (name : List ℕ) → place < length names → get_or names place [] ≡ name → NoneBefore names place name → place_of names name ≡ place
+pub place_of-first : (names : List (List ℕ)) (place : ℕ) (name : List ℕ) → place < length names
+    → get_or names place [] ≡ name → NoneBefore names place name → place_of names name ≡ place
 place_of-first names place name lt is none =
     position_or_len_is (λ other. bytes_eq other name) names place [] (omega arith)
-    (λ k before. elim (cases_Bool (bytes_eq (get_or names k []) name)) [ inl same ↦ absurd (none k before ((bytes_eq-Decides (get_or names k []) name).0 same)) | inr differ ↦ differ ])
+    (λ k before. elim (cases_Bool (bytes_eq (get_or names k []) name)) [
+      | inl same ↦ absurd (none k before ((bytes_eq-Decides (get_or names k []) name).0 same))
+      | inr differ ↦ differ
+    ])
     (λ _. (bytes_eq-Decides (get_or names place []) name).1 is)
 
 -- a name that no place has is not among the names
-pub none_of_all : (names : List (List ℕ)) (name : List ℕ) → NoneBefore names (length names) name → Contains names name → ⊥
+pub none_of_all : (names : List (List ℕ)) (name : List ℕ) → NoneBefore names (length names) name → Contains names name
+    → ⊥
 none_of_all names name none found = none found.0 found.1 (get_or_default names found.0 [] name found.1 ∙ found.2)
 
 -- a name whose place is one of theirs is among the names
 Contains-place_of : (names : List (List ℕ)) (name : List ℕ) → place_of names name < length names → Contains names name
-Contains-place_of names name lt =
-    (place_of names name, lt, (bytes_eq-Decides (get_or names (place_of names name) name) name).0 (passes_at_first (λ other. bytes_eq other name) names name lt))
+Contains-place_of names name lt = (
+  place_of names name,
+  lt,
+  (bytes_eq-Decides (get_or names (place_of names name) name) name).0
+      (passes_at_first (λ other. bytes_eq other name) names name lt),
+)
 
 -- there is a place of a name exactly where the name is among the names
-pub IsSome-place : (names : List (List ℕ)) (name : List ℕ) (place : Option ℕ) → IfSome place (λ p. (p ≡ place_of names name) × (p < length names)) → IfNone place (Contains names name → ⊥)
+pub IsSome-place : (names : List (List ℕ)) (name : List ℕ) (place : Option ℕ)
+    → IfSome place (λ p. (p ≡ place_of names name) × (p < length names)) → IfNone place (Contains names name → ⊥)
     → IsTrue (is_some place) ↔ Contains names name
 IsSome-place names name (Some p) some none = ((λ _. Contains-place_of names name (omega (arith, some))), (λ _. refl))
 IsSome-place names name None some none = ((λ t. cc t), (λ found. absurd (none found)))

@@ -32,7 +32,8 @@ module _ (f g on : ℕ → Bool) where
         let then = exists-same t (λ i h. same i (second_of (names_life i s) (names_life i t) h)) in
         rw (first, then) refl
 
-    each-same : (ms : Trees) → ((i : ℕ) → IsTrue (any_names_life i ms) → f i ≡ g i) → each_exists f on ms ≡ each_exists g on ms
+    each-same : (ms : Trees) → ((i : ℕ) → IsTrue (any_names_life i ms) → f i ≡ g i)
+        → each_exists f on ms ≡ each_exists g on ms
     each-same none same = refl
     each-same (more s ms) same =
         let here = exists-same s (λ i h. same i (first_of (names_life i s) (any_names_life i ms) h)) in
@@ -60,4 +61,5 @@ exists-all on s below = exists-same (has_bit 65535) all_lives on s (λ i named. 
     full (suc (suc (suc (suc (suc (suc (suc (suc (suc (suc (suc (suc (suc zero))))))))))))) lt = refl
     full (suc (suc (suc (suc (suc (suc (suc (suc (suc (suc (suc (suc (suc (suc zero)))))))))))))) lt = refl
     full (suc (suc (suc (suc (suc (suc (suc (suc (suc (suc (suc (suc (suc (suc (suc zero))))))))))))))) lt = refl
-    full (suc (suc (suc (suc (suc (suc (suc (suc (suc (suc (suc (suc (suc (suc (suc (suc i)))))))))))))))) lt = absurd (omega (arith, lt))
+    full (suc (suc (suc (suc (suc (suc (suc (suc (suc (suc (suc (suc (suc (suc (suc (suc i)))))))))))))))) lt =
+        absurd (omega (arith, lt))

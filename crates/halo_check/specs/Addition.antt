@@ -14,6 +14,7 @@ use Rattle.halo_syntax.specs.Line as line
 use Rattle.halo_syntax.specs.Line.{Line}
 use Rattle.halo_check.specs.declared.addition.Addition.{Addition}
 use Rattle.halo_check.specs.declared.addition.Addition.TheVariants as addition
+use Rattle.halo_check.specs.declared.limits.TheConstants.{GREATEST_AMOUNT, MOST_LIVES}
 
 -- this is what a line adds to some lines
 abbrev pub Adds : TableFile → Draft → Line → Addition → Type 0
@@ -35,9 +36,9 @@ Adds tables d _ _ = ⊥
 -- what holds of the lines so far, each of which passed the checks: there are at most 12 lives, each
 -- has a row in its table, and the amounts add up to at most 10^10
 pub record IsKept (tables : TableFile) (d : Draft) : Type 0 where
-  pub few_lives : length d.lives ≤ 12
+  pub few_lives : length d.lives ≤ MOST_LIVES
   pub rows : All (λ declared. HasRow tables declared.life.table declared.life.age) d.lives
-  pub amounts : amount_of_all d.pays ≤ 10 ^ 10
+  pub amounts : amount_of_all d.pays ≤ GREATEST_AMOUNT
 
 -- the lives that the status of a pay or a premium names have numbers below 16
 abbrev pub NamesLowLives : Addition → Type 0

@@ -26,21 +26,23 @@ use Rattle.halo_check.specs.Parts as parts
 use Rattle.halo_check.specs.declared.fault.ContractKind.{ContractKind}
 use Rattle.halo_check.specs.declared.fault.ContractKind.TheVariants as kind
 use Rattle.halo_syntax.specs.declared.form.Form.TheVariants as form
+use Rattle.halo_check.specs.declared.limits.TheConstants.{GREATEST_AGE, GREATEST_AMOUNT, GREATEST_PART, MOST_LIVES, MOST_PAYS, MOST_RATES, MOST_RESERVES, MOST_YEARS}
 
 -- Magnitude: each number, name and list is within its limit, and so is how many lines of a form
 -- there are and what the amounts add up to
 abbrev pub IsWithinLimits : Draft → Line → Type 0
 IsWithinLimits d (line.interest p q rates) =
-    IsUpTo (10 ^ 9) p × IsUpTo (10 ^ 9) q × All IsRateWithin rates × (length rates < 8)
+    IsUpTo GREATEST_PART p × IsUpTo GREATEST_PART q × All IsRateWithin rates
+    × (length rates < MOST_RATES)
 IsWithinLimits d (line.life name table age) =
-    IsShortName name × IsShortName table × IsUpTo 150 age × (length d.lives < 12)
+    IsShortName name × IsShortName table × IsUpTo GREATEST_AGE age × (length d.lives < MOST_LIVES)
 IsWithinLimits d (line.ties r) = ⊤
 IsWithinLimits d (line.pay amount s) =
-    IsUpTo (10 ^ 10) amount × IsSymbolWithin s × (length d.pays < 64)
-    × (amount_of_all d.pays + number amount ≤ 10 ^ 10)
+    IsUpTo GREATEST_AMOUNT amount × IsSymbolWithin s × (length d.pays < MOST_PAYS)
+    × (amount_of_all d.pays + number amount ≤ GREATEST_AMOUNT)
 IsWithinLimits d (line.premium body) = IsStatusWithin body
 IsWithinLimits d (line.reserve time names) =
-    IsUpTo 200 time × All IsShortName names × (length d.reserves < 64)
+    IsUpTo MOST_YEARS time × All IsShortName names × (length d.reserves < MOST_RESERVES)
 
 -- the digits write a number that is not 0
 abbrev pub IsSome : List ℕ → Type 0

@@ -12,24 +12,21 @@ ghost use Rattle.halo_check.specs.DraftView.{draft_of};
 ghost use Rattle.halo_syntax.specs.ProperLine.{IsProperLine, IsProperRate};
 
 use crate::draft::Draft;
-use crate::limits::{is_short_name, is_status_within, is_symbol_within, is_up_to};
+use crate::limits::{
+    GREATEST_AGE, GREATEST_AMOUNT, GREATEST_PART, LAST_YEAR, MOST_LIVES, MOST_PAYS, MOST_RATES,
+    MOST_RESERVES, MOST_YEARS, is_short_name, is_status_within, is_symbol_within, is_up_to,
+};
 use crate::zero::{has_no_zero_term, is_some_number};
 use halo_status::Pay;
 use halo_symbol::Vary;
 use halo_syntax::{LaterRate, Line};
 use halo_text::number_up_to;
 
-/// The greatest P or Q of interest.
-pub const GREATEST_PART: u64 = 1_000_000_000;
-
-/// The greatest amount, and the greatest sum of amounts.
-const GREATEST_AMOUNT: u64 = 10_000_000_000;
-
 /// Magnitude: whether each number, name and list is within its limit, and with the lines before it
 /// so are the numbers of lives, pays and reserves, and the sum of the amounts.
 pub fn is_within_limits(draft: &Draft, line: &Line<'_>) -> bool
     requires proper { IsProperLine (plain_line line.now) }
-    requires amounts { amount_of_all (draft_of draft.now).pays ≤ 10 ^ 10 }
+    requires amounts { amount_of_all (draft_of draft.now).pays ≤ GREATEST_AMOUNT }
     ensures { IsTrue result ↔ IsWithinLimits (draft_of draft.now) (plain_line line.now) }
 {
     match line {
@@ -37,21 +34,23 @@ pub fn is_within_limits(draft: &Draft, line: &Line<'_>) -> bool
             is_up_to(p, GREATEST_PART)
                 && is_up_to(q, GREATEST_PART)
                 && are_rates_within(later)
-                && later.len() < 8
+                && later.len() < MOST_RATES
         }
         Line::Life { name, table, age } => {
             is_short_name(name)
                 && is_short_name(table)
-                && is_up_to(age, 150)
-                && draft.lives.len() < 12
+                && is_up_to(age, GREATEST_AGE)
+                && draft.lives.len() < MOST_LIVES
         }
         Line::Ties(_) => true,
         Line::Pay { amount, symbol } => {
-            is_symbol_within(symbol) && draft.pays.len() < 64 && has_room_for(draft, amount)
+            is_symbol_within(symbol) && draft.pays.len() < MOST_PAYS && has_room_for(draft, amount)
         }
         Line::Premium(body) => is_status_within(body),
         Line::Reserve { time, names } => {
-            is_up_to(time, 200) && are_short_names(names) && draft.reserves.len() < 64
+            is_up_to(time, MOST_YEARS)
+                && are_short_names(names)
+                && draft.reserves.len() < MOST_RESERVES
         }
     }
 }
@@ -74,7 +73,7 @@ fn is_rate_within(rate: &LaterRate<'_>) -> bool
     ensures { IsProperRate (plain_rate rate.now)
         → (IsTrue result ↔ IsRateWithin (plain_rate rate.now)) }
 {
-    number_up_to(rate.year, 199).is_ok()
+    number_up_to(rate.year, LAST_YEAR).is_ok()
         && number_up_to(rate.p, GREATEST_PART).is_ok()
         && number_up_to(rate.q, GREATEST_PART).is_ok()
 }
@@ -94,9 +93,9 @@ fn are_short_names(names: &[&[u8]]) -> bool
 // Whether the amount, also with those of the pays so far, is at most the greatest.
 fn has_room_for(draft: &Draft, amount: &[u8]) -> bool
     requires number { IsNumber amount.now }
-    requires amounts { amount_of_all (draft_of draft.now).pays ≤ 10 ^ 10 }
-    ensures { IsTrue result ↔ (IsUpTo (10 ^ 10) amount.now
-        × (amount_of_all (draft_of draft.now).pays + number amount.now ≤ 10 ^ 10)) }
+    requires amounts { amount_of_all (draft_of draft.now).pays ≤ GREATEST_AMOUNT }
+    ensures { IsTrue result ↔ (IsUpTo GREATEST_AMOUNT amount.now
+        × (amount_of_all (draft_of draft.now).pays + number amount.now ≤ GREATEST_AMOUNT)) }
 {
     match number_up_to(amount, GREATEST_AMOUNT) {
         Ok(value) => amounts_of(&draft.pays) + value <= GREATEST_AMOUNT,
@@ -106,7 +105,7 @@ fn has_room_for(draft: &Draft, amount: &[u8]) -> bool
 
 // The amounts of some pays together.
 fn amounts_of(pays: &[Pay]) -> u64
-    requires { amount_of_all (map pay_of pays.now) ≤ 10 ^ 10 }
+    requires { amount_of_all (map pay_of pays.now) ≤ GREATEST_AMOUNT }
     ensures { result ≡ amount_of_all (map pay_of pays.now) }
 {
     let mut sum = 0;
@@ -167,14 +166,10 @@ pub fn has_rising_years(draft: &Draft, line: &Line<'_>) -> bool
     requires within { IsWithinLimits (draft_of draft.now) (plain_line line.now) }
     ensures { IsTrue result ↔ HasRisingYears (plain_line line.now) }
 {
-    match line {
-        Line::Interest { later, .. } => years_rise(later),
-        Line::Life { .. } => true,
-        Line::Ties(_) => true,
-        Line::Pay { .. } => true,
-        Line::Premium(_) => true,
-        Line::Reserve { .. } => true,
-    }
+    let Line::Interest { later, .. } = line else {
+        return true;
+    };
+    years_rise(later)
 }
 
 // Whether the years of the fractions rise.
@@ -197,7 +192,7 @@ fn year_of(rate: &LaterRate<'_>) -> u64
     requires within { IsRateWithin (plain_rate rate.now) }
     ensures { result ≡ number rate.now.year.now }
 {
-    match number_up_to(rate.year, 199) {
+    match number_up_to(rate.year, LAST_YEAR) {
         Ok(year) => year,
         Err(_) => unreachable!(),
     }

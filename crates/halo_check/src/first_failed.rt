@@ -11,6 +11,7 @@ use crate::draft::Draft;
 use crate::error::LineError;
 use crate::fault::ContractKind;
 use crate::forms::{form_of, is_in_order};
+use crate::limits::GREATEST_AMOUNT;
 use crate::names::{has_age, has_causes, has_lives, has_table, is_once};
 use halo_syntax::Line;
 use halo_table::Tables;
@@ -24,7 +25,7 @@ pub fn check_writing(
     line: &Line<'_>,
 ) -> Result<(), LineError>
     requires proper { IsProperLine (plain_line line.now) }
-    requires amounts { amount_of_all (draft_of draft.now).pays ≤ 10 ^ 10 }
+    requires amounts { amount_of_all (draft_of draft.now).pays ≤ GREATEST_AMOUNT }
     ensures ok { IfOk result
         (λ _. PassesBefore tables.now (draft_of draft.now) (plain_line line.now)
         ContractKind.Rank) }

@@ -24,12 +24,12 @@ mod zero;
 
 pub use addition::Addition;
 pub use among::is_among;
-pub use checks::GREATEST_PART;
 pub use declared::place_of_life;
 pub use draft::Draft;
 pub use error::LineError;
 pub use fault::ContractKind;
 pub use first_failed::check_writing;
+pub use limits::{GREATEST_AGE, GREATEST_AMOUNT, GREATEST_PART, LAST_YEAR, MOST_LIVES, MOST_RATES};
 pub use memory::Memory;
 pub use names::{age_of, place_of_table};
 pub use numbers::{number_within, rank_within, years_within};

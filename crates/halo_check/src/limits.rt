@@ -11,17 +11,41 @@ use crate::parts::{PartTest, body_passes};
 use halo_symbol::{Body, Members, Names, Node, Symbol, Vary};
 use halo_text::{LONGEST_NAME, number_up_to};
 
-/// The greatest number of years.
-const MOST_YEARS: u64 = 200;
+/// The greatest P or Q of interest.
+pub const GREATEST_PART: u64 = 1_000_000_000;
+
+/// The most fractions of interest.
+pub const MOST_RATES: usize = 8;
+
+/// The last year from which a fraction of interest can hold.
+pub const LAST_YEAR: u64 = 199;
+
+/// The greatest age of a life.
+pub const GREATEST_AGE: u64 = 150;
+
+/// The most lives.
+pub const MOST_LIVES: usize = 12;
+
+/// The most pays.
+pub const MOST_PAYS: usize = 64;
+
+/// The greatest amount, and the greatest sum of amounts.
+pub const GREATEST_AMOUNT: u64 = 10_000_000_000;
+
+/// The most reserves.
+pub const MOST_RESERVES: usize = 64;
+
+/// The greatest number of years: of a term, of a deferral and of a factor, and the last time.
+pub const MOST_YEARS: u64 = 200;
 
 /// The greatest number that is asked of the members of a list.
-const GREATEST_RANK: u64 = 64;
+pub const GREATEST_RANK: u64 = 64;
 
 /// The greatest number of members of a list.
-const MOST_MEMBERS: usize = 16;
+pub const MOST_MEMBERS: usize = 16;
 
 /// The greatest number of nodes of a status.
-const MOST_NODES: usize = 64;
+pub const MOST_NODES: usize = 64;
 
 /// Whether digits write a number of at most `limit`.
 pub fn is_up_to(digits: &[u8], limit: u64) -> bool

@@ -16,6 +16,7 @@ use crate::Memory;
 use crate::declared::{are_different, names_declared, place_of_life};
 use crate::draft::Draft;
 use crate::forms::came_before;
+use crate::limits::GREATEST_AGE;
 use halo_contract::LifeLine;
 use halo_symbol::Names;
 use halo_syntax::{Form, Line};
@@ -73,10 +74,10 @@ fn is_table(tables: &Tables, name: &[u8]) -> bool
 /// The age that digits write, which is at most 150.
 pub fn age_of(digits: &[u8]) -> u16
     requires number { IsNumber digits.now }
-    requires within { IsUpTo 150 digits.now }
+    requires within { IsUpTo GREATEST_AGE digits.now }
     ensures { result ≡ number digits.now }
 {
-    match number_up_to(digits, 150) {
+    match number_up_to(digits, GREATEST_AGE) {
         Ok(age) => age as u16,
         Err(_) => unreachable!(),
     }
@@ -86,14 +87,10 @@ pub fn age_of(digits: &[u8]) -> u16
 pub fn has_table(tables: &Tables, line: &Line<'_>) -> bool
     ensures { IsTrue result ↔ HasTable tables.now (plain_line line.now) }
 {
-    match line {
-        Line::Life { table, .. } => is_table(tables, table),
-        Line::Interest { .. } => true,
-        Line::Ties(_) => true,
-        Line::Pay { .. } => true,
-        Line::Premium(_) => true,
-        Line::Reserve { .. } => true,
-    }
+    let Line::Life { table, .. } = line else {
+        return true;
+    };
+    is_table(tables, table)
 }
 
 /// `NoAge`: whether a life's table has a row at its age.

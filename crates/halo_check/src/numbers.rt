@@ -3,6 +3,7 @@ ghost use Rattle.std.specs.Prelude.{◌≡◌};
 ghost use Rattle.halo_text.specs.Number.{IsNumber, number};
 ghost use Rattle.halo_check.specs.Limits.{IsUpTo};
 
+use crate::limits::{GREATEST_RANK, MOST_YEARS};
 use halo_text::number_up_to;
 
 /// The number that digits write, which is at most `limit`.
@@ -20,17 +21,17 @@ pub fn number_within(digits: &[u8], limit: u64) -> u64
 /// The years that digits write, which are at most 200.
 pub fn years_within(digits: &[u8]) -> u16
     requires number { IsNumber digits.now }
-    requires within { IsUpTo 200 digits.now }
+    requires within { IsUpTo MOST_YEARS digits.now }
     ensures { result ≡ number digits.now }
 {
-    number_within(digits, 200) as u16
+    number_within(digits, MOST_YEARS) as u16
 }
 
 /// The rank that digits write, which is at most 64.
 pub fn rank_within(digits: &[u8]) -> u8
     requires number { IsNumber digits.now }
-    requires within { IsUpTo 64 digits.now }
+    requires within { IsUpTo GREATEST_RANK digits.now }
     ensures { result ≡ number digits.now }
 {
-    number_within(digits, 64) as u8
+    number_within(digits, GREATEST_RANK) as u8
 }

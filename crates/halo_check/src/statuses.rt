@@ -18,6 +18,7 @@ use crate::addition::Addition;
 use crate::among::is_among;
 use crate::draft::Draft;
 use crate::fault::ContractKind;
+use crate::limits::MOST_YEARS;
 use crate::numbers::years_within;
 use crate::ranks::{has_ranks, is_rank};
 use crate::sharing::are_apart;
@@ -81,14 +82,10 @@ pub fn is_lasting_added(addition: &Addition) -> bool
     ensures { (tables : TableFile) (d : PlainDraft) (l : PlainLine)
         → Adds tables d l addition.now → (IsTrue result ↔ IsLastingLine d l) }
 {
-    match addition {
-        Addition::Pay(pay) => pay.kind != Kind::Insurance || pay.body.lasting(),
-        Addition::Premium(_) => true,
-        Addition::Interest(_) => true,
-        Addition::Life(_) => true,
-        Addition::Ties(_) => true,
-        Addition::Reserve(_) => true,
-    }
+    let Addition::Pay(pay) = addition else {
+        return true;
+    };
+    pay.kind != Kind::Insurance || pay.body.lasting()
 }
 
 /// Shared: whether in a marked list no two different members name the same life or the same term.
@@ -97,14 +94,10 @@ pub fn shares_nothing_added(addition: &Addition) -> bool
     ensures { (tables : TableFile) (d : PlainDraft) (l : PlainLine)
         → Adds tables d l addition.now → (IsTrue result ↔ SharesNothingMarked d l) }
 {
-    match addition {
-        Addition::Pay(pay) => has_members_apart(pay),
-        Addition::Premium(_) => true,
-        Addition::Interest(_) => true,
-        Addition::Life(_) => true,
-        Addition::Ties(_) => true,
-        Addition::Reserve(_) => true,
-    }
+    let Addition::Pay(pay) = addition else {
+        return true;
+    };
+    has_members_apart(pay)
 }
 
 // Whether the members of a marked list share nothing.
@@ -160,7 +153,7 @@ pub fn are_alive_then(tables: &Tables, draft: &Draft, line: &Line<'_>) -> bool
 fn are_lives_alive(tables: &Tables, lives: &[LifeLine], time: u16, names: &[&[u8]]) -> bool
     requires rows { All (λ declared. HasRow tables.now declared.life.table declared.life.age)
         lives.now }
-    requires time { time ≤ 200 }
+    requires time { time ≤ MOST_YEARS }
     ensures { IsTrue result
         ↔ All (IsAliveIfNamed tables.now (map (λ name. name.now) names.now) time) lives.now }
 {
@@ -175,7 +168,7 @@ fn are_lives_alive(tables: &Tables, lives: &[LifeLine], time: u16, names: &[&[u8
 // Whether a life has a row at its age plus the time, if it has one of the names.
 fn is_alive_if_named(tables: &Tables, declared: &LifeLine, time: u16, names: &[&[u8]]) -> bool
     requires row { HasRow tables.now declared.now.life.table declared.now.life.age }
-    requires time { time ≤ 200 }
+    requires time { time ≤ MOST_YEARS }
     ensures { IsTrue result
         ↔ IsAliveIfNamed tables.now (map (λ name. name.now) names.now) time declared.now }
 {
@@ -185,7 +178,7 @@ fn is_alive_if_named(tables: &Tables, declared: &LifeLine, time: u16, names: &[&
 // Whether a life has a row at its age plus the time.
 fn is_alive_at(tables: &Tables, life: &Life, time: u16) -> bool
     requires row { HasRow tables.now life.now.table life.now.age }
-    requires time { time ≤ 200 }
+    requires time { time ≤ MOST_YEARS }
     ensures { IsTrue result ↔ (life.now.age + time ≤ last_age_of tables.now life.now.table) }
 {
     let last = tables.last_age(life.table);

@@ -28,27 +28,38 @@ pub record HasRates (first : Rate) (rates : List LaterRate) (k : ℕ) (interest 
 pub no_later : (first : Rate) (rates : List LaterRate) → first.year ≡ 0 → HasRates first rates 0 (first ∷ [])
 no_later first rates start = record { is = refl; count = refl; last = start }
 
-pub one_later : (first : Rate) (rates : List LaterRate) (k : ℕ) (interest more : List Rate) → k < length rates → HasRates first rates k interest
+pub one_later : (first : Rate) (rates : List LaterRate) (k : ℕ) (interest more : List Rate) → k < length rates
+    → HasRates first rates k interest
     → more ≡ interest ++ fraction_of (get_or rates k no_rate) ∷ [] → HasRates first rates (k + 1) more
 one_later first rates k interest more lt has e = record {
   is =
       e ∙ ap (λ rs. rs ++ fraction_of (get_or rates k no_rate) ∷ []) has.is
-      ∙ sym (ap (λ rs. first ∷ map rate_from rs) (map_more plain_rate rates k no_rate lt) ∙ ap (λ rs. first ∷ rs) (map-append rate_from (map plain_rate (take k rates)) (plain_rate (get_or rates k no_rate) ∷ [])));
+      ∙ sym (ap (λ rs. first ∷ map rate_from rs) (map_more plain_rate rates k no_rate lt)
+      ∙ ap (λ rs. first ∷ rs) (map-append rate_from (map plain_rate (take k rates))
+      (plain_rate (get_or rates k no_rate) ∷ [])));
   count = ap length e ∙ length_push interest (fraction_of (get_or rates k no_rate)) ∙ omega (arith, has.count);
-  last = ap (λ rs. (rate_at rs (k + 1)).year) e ∙ ap (λ (r : Rate). r.year) (get_or_at interest (fraction_of (get_or rates k no_rate)) [] no_interest (k + 1) has.count) ∙ next (k + 1) refl;
+  last =
+      ap (λ rs. (rate_at rs (k + 1)).year) e ∙ ap (λ (r : Rate). r.year)
+      (get_or_at interest (fraction_of (get_or rates k no_rate)) [] no_interest (k + 1) has.count)
+      ∙ next (k + 1) refl;
 }
   where
     next : (n : ℕ) → n ≡ k + 1 → number (get_or rates k no_rate).year.now ≡ year_before rates n
     next zero e = absurd (omega (arith, e))
     next (suc m) e = let same : m ≡ k = omega (arith, e) in rw same refl
 
-pub all_later : (first : Rate) (rates : List LaterRate) (k : ℕ) (interest : List Rate) → length rates ≤ k → HasRates first rates k interest → interest ≡ first ∷ map rate_from (map plain_rate rates)
-all_later first rates k interest all has = has.is ∙ ap (λ rs. first ∷ map rate_from (map plain_rate rs)) (take_all k rates all)
+pub all_later : (first : Rate) (rates : List LaterRate) (k : ℕ) (interest : List Rate) → length rates ≤ k
+    → HasRates first rates k interest → interest ≡ first ∷ map rate_from (map plain_rate rates)
+all_later first rates k interest all has =
+    has.is ∙ ap (λ rs. first ∷ map rate_from (map plain_rate rs)) (take_all k rates all)
 
 -- the next fraction may follow
-pub may_follow : (first : Rate) (rates : List LaterRate) (k : ℕ) (interest : List Rate) → k < length rates → length rates < 8 → HasRates first rates k interest → YearsRise (map plain_rate rates)
-    → 1 ≤ number (get_or rates k no_rate).year.now → number (get_or rates k no_rate).year.now ≤ 199 → IsFraction (number (get_or rates k no_rate).p.now) (number (get_or rates k no_rate).q.now)
-    → CanFollow interest (number (get_or rates k no_rate).year.now) (number (get_or rates k no_rate).p.now) (number (get_or rates k no_rate).q.now)
+pub may_follow : (first : Rate) (rates : List LaterRate) (k : ℕ) (interest : List Rate) → k < length rates
+    → length rates < 8 → HasRates first rates k interest → YearsRise (map plain_rate rates)
+    → 1 ≤ number (get_or rates k no_rate).year.now → number (get_or rates k no_rate).year.now ≤ 199
+    → IsFraction (number (get_or rates k no_rate).p.now) (number (get_or rates k no_rate).q.now)
+    → CanFollow interest (number (get_or rates k no_rate).year.now) (number (get_or rates k no_rate).p.now)
+    (number (get_or rates k no_rate).q.now)
 may_follow first rates k interest lt few has rise some within fraction = record {
   fraction = fraction;
   year_in = within;
@@ -59,7 +70,8 @@ may_follow first rates k interest lt few has rise some within fraction = record 
     at : length interest - 1 ≡ k
     at = omega (arith, has.count)
 
-    below : (n : ℕ) → n < length rates → 1 ≤ number (get_or rates n no_rate).year.now → year_before rates n < number (get_or rates n no_rate).year.now
+    below : (n : ℕ) → n < length rates → 1 ≤ number (get_or rates n no_rate).year.now
+        → year_before rates n < number (get_or rates n no_rate).year.now
     below zero lt some = omega (arith, some)
     below (suc m) lt some =
         let next : m + 1 ≡ suc m = omega arith in

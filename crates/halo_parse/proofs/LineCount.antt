@@ -6,9 +6,12 @@ use Rattle.halo_syntax.specs.FileLines.{byte_order_mark, is_line_feed, lines_of,
 
 pieces_few : (p : ℕ → Bool) (xs : List ℕ) → length (slice_split p xs) ≤ length xs + 1
 pieces_few p [] = omega arith
-pieces_few p (x ∷ xs) = let more : length (slice_split p (x ∷ xs)) ≤ length xs + 1 + 1 = go (p x) (slice_split p xs) (pieces_few p xs) in omega (arith, more)
+pieces_few p (x ∷ xs) =
+    let more : length (slice_split p (x ∷ xs)) ≤ length xs + 1 + 1 = go (p x) (slice_split p xs) (pieces_few p xs) in
+    omega (arith, more)
   where
-    go : (b : Bool) (parts : List (List ℕ)) → length parts ≤ length xs + 1 → length (cond b ([] ∷ parts) (onto_first x parts)) ≤ length xs + 1 + 1
+    go : (b : Bool) (parts : List (List ℕ)) → length parts ≤ length xs + 1
+        → length (cond b ([] ∷ parts) (onto_first x parts)) ≤ length xs + 1 + 1
     go true parts few = omega (arith, few)
     go false [] few = omega arith
     go false (part ∷ parts) few = omega (arith, few)
@@ -19,7 +22,8 @@ end_fewer ([] ∷ []) = omega arith
 end_fewer ((b ∷ bs) ∷ []) = omega arith
 end_fewer (piece ∷ next ∷ pieces) = let rest = end_fewer (next ∷ pieces) in go piece rest
   where
-    go : (piece : List ℕ) → length (without_empty_end (next ∷ pieces)) ≤ length (next ∷ pieces) → length (without_empty_end (piece ∷ next ∷ pieces)) ≤ length (piece ∷ next ∷ pieces)
+    go : (piece : List ℕ) → length (without_empty_end (next ∷ pieces)) ≤ length (next ∷ pieces)
+        → length (without_empty_end (piece ∷ next ∷ pieces)) ≤ length (piece ∷ next ∷ pieces)
     go [] rest = omega (arith, rest)
     go (b ∷ bs) rest = omega (arith, rest)
 

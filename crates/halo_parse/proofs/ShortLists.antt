@@ -24,7 +24,8 @@ short : (f : List ℕ → ℕ) (ms : Members) → IsListWithin ms → IsShort (s
 short f ms few = (omega (arith, member_count-trees f ms, some_member ms), omega (arith, member_count-trees f ms))
 
 mutual
-  short_lists-node : (f : List ℕ → ℕ) (P : Node → Type 0) (m : Node) → AtEach P IsListWithin m → HasShortLists (tree_of_node f m)
+  short_lists-node : (f : List ℕ → ℕ) (P : Node → Type 0) (m : Node) → AtEach P IsListWithin m
+      → HasShortLists (tree_of_node f m)
   short_lists-node f P (life name) h = tt
   short_lists-node f P (term years) h = tt
   short_lists-node f P (last ms) h = (short f ms h.1, short_lists-members f P ms h.2)
@@ -32,17 +33,22 @@ mutual
   short_lists-node f P (exactly rank ms) h = (short f ms h.1, short_lists-members f P ms h.2)
   short_lists-node f P (group body) h = short_lists-body f P body h.1
 
-  short_lists-members : (f : List ℕ → ℕ) (P : Node → Type 0) (ms : Members) → AtEachMember P IsListWithin ms → AtEachNodeIn HasShortList (trees_of_members f ms)
+  short_lists-members : (f : List ℕ → ℕ) (P : Node → Type 0) (ms : Members) → AtEachMember P IsListWithin ms
+      → AtEachNodeIn HasShortList (trees_of_members f ms)
   short_lists-members f P (one m) h = (short_lists-node f P m h, tt)
   short_lists-members f P (and m ms) h = (short_lists-node f P m h.0, short_lists-members f P ms h.1)
 
-  short_lists-list : (f : List ℕ → ℕ) (P : Node → Type 0) (ms : Members) → IsListWithin ms → AtEachMember P IsListWithin ms → HasShortLists (tree_of_list f ms)
+  short_lists-list : (f : List ℕ → ℕ) (P : Node → Type 0) (ms : Members) → IsListWithin ms
+      → AtEachMember P IsListWithin ms → HasShortLists (tree_of_list f ms)
   short_lists-list f P (one m) few h = short_lists-node f P m h
-  short_lists-list f P (and m ms) few h = (short f (and m ms) few, (short_lists-node f P m h.0, short_lists-members f P ms h.1))
+  short_lists-list f P (and m ms) few h =
+      (short f (and m ms) few, (short_lists-node f P m h.0, short_lists-members f P ms h.1))
 
-  pub short_lists-body : (f : List ℕ → ℕ) (P : Node → Type 0) (body : Body) → AtEachOfBody P IsListWithin body → HasShortLists (tree_of_body f body)
+  pub short_lists-body : (f : List ℕ → ℕ) (P : Node → Type 0) (body : Body) → AtEachOfBody P IsListWithin body
+      → HasShortLists (tree_of_body f body)
   short_lists-body f P (list ms) h = short_lists-list f P ms h.0 h.1
-  short_lists-body f P (reversion ms ns) h = (tt, (short_lists-list f P ms h.0.0 h.0.1), (short_lists-list f P ns h.1 h.2))
+  short_lists-body f P (reversion ms ns) h =
+      (tt, (short_lists-list f P ms h.0.0 h.0.1), (short_lists-list f P ns h.1 h.2))
 
 pub short_lists-status : (f : List ℕ → ℕ) (body : Body) → IsStatusWithin body → HasShortLists (tree_of_body f body)
 short_lists-status f body within = short_lists-body f IsMemberWithin body within.parts

@@ -87,7 +87,8 @@ pays_are_valid tables d amount s proper passes =
         lasting = passes kind.NotLasting;
         causes = valid_causes tables.causes s.kind s.causes symbol.allowed.causes (passes kind.NoCause);
         mark =
-            valid_mark (place_of names) s.kind s.mark s.body symbol.allowed.mark (passes kind.Rank).1 (passes kind.Shared);
+            valid_mark (place_of names) s.kind s.mark s.body symbol.allowed.mark (passes kind.Rank).1
+            (passes kind.Shared);
       };
       named = rw (← length-map d.lives (λ line. line.name)) (placed-content names s.mark s.body (passes kind.NoLife));
       by_cause = causes_of-lt tables.causes s.causes;

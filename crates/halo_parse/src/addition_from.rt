@@ -22,8 +22,8 @@ use crate::masks::mask_of_lives;
 use crate::pay_from::pay_from;
 use crate::status_from::status_from;
 use halo_check::{
-    Addition, ContractKind, Draft, GREATEST_PART, Memory, age_of, number_within, place_of_table,
-    years_within,
+    Addition, ContractKind, Draft, GREATEST_AGE, GREATEST_PART, LAST_YEAR, MOST_LIVES, MOST_RATES,
+    Memory, age_of, number_within, place_of_table, years_within,
 };
 use halo_contract::{LifeLine, ReserveLine, Ties};
 use halo_interest::Interest;
@@ -70,15 +70,15 @@ pub fn addition_from(
 // The interest of a first fraction and later ones.
 fn interest_from(p: &[u8], q: &[u8], later: &[LaterRate<'_>]) -> Interest
     requires p { IsNumber p.now }
-    requires p_within { IsUpTo (10 ^ 9) p.now }
+    requires p_within { IsUpTo GREATEST_PART p.now }
     requires q { IsNumber q.now }
-    requires q_within { IsUpTo (10 ^ 9) q.now }
+    requires q_within { IsUpTo GREATEST_PART q.now }
     requires q_some { IsSome q.now }
     requires proper { All IsProperRate (map plain_rate later.now) }
     requires within { All IsRateWithin (map plain_rate later.now) }
     requires some { All (λ rate. IsSome rate.year × IsSome rate.q) (map plain_rate later.now) }
     requires rise { YearsRise (map plain_rate later.now) }
-    requires few { length later.now < 8 }
+    requires few { length later.now < MOST_RATES }
     ensures { result ≡ record { year = 0; p = number p.now; q = number q.now }
         ∷ map rate_from (map plain_rate later.now) }
 {
@@ -89,7 +89,7 @@ fn interest_from(p: &[u8], q: &[u8], later: &[LaterRate<'_>]) -> Interest
         unreachable!()
     };
     for rate in later {
-        let year = number_within(rate.year, 199) as u16;
+        let year = number_within(rate.year, LAST_YEAR) as u16;
         let p = number_within(rate.p, GREATEST_PART);
         let q = number_within(rate.q, GREATEST_PART);
         if interest.add_from(year, p, q).is_none() {
@@ -105,7 +105,7 @@ fn life_from(tables: &Tables, name: &[u8], table: &[u8], age: &[u8]) -> LifeLine
     requires short { IsShortName name.now }
     requires table { Contains (names_of tables.now.tables) table.now }
     requires number { IsNumber age.now }
-    requires age { IsUpTo 150 age.now }
+    requires age { IsUpTo GREATEST_AGE age.now }
     ensures { let place = place_of (names_of tables.now.tables) table.now in
         result ≡ record { name = name.now; life = record { table = place; age = number age.now } } }
 {
@@ -124,7 +124,7 @@ fn life_from(tables: &Tables, name: &[u8], table: &[u8], age: &[u8]) -> LifeLine
 // What a premium of 1 pays, on the status that is written.
 fn premium_from(alloc: Global, body: &Body<'_>, lives: &[LifeLine]) -> Result<Pay, Memory>
     requires usable { IsUsableBody (life_names lives.now) (plain_body body.now) }
-    requires few { length lives.now ≤ 12 }
+    requires few { length lives.now ≤ MOST_LIVES }
     ensures { IfOk result (λ pay. pay_of pay
         ≡ premium_pay (tree_of_body (place_of (life_names lives.now)) (plain_body body.now))) }
 {

@@ -4,14 +4,14 @@ ghost use Rattle.halo_symbol.specs.SymbolView.{plain_names};
 ghost use Rattle.halo_check.specs.Draft.{all_names, is_among, mask_of_names};
 ghost use Rattle.halo_contract.specs.PlainContract.{life_names};
 
-use halo_check::is_among;
+use halo_check::{MOST_LIVES, is_among};
 use halo_contract::LifeLine;
 use halo_symbol::Names;
 use halo_table::Tables;
 
 /// Which of the lives have one of the names, life i as bit i. There are at most 12 lives.
 pub fn mask_of_lives(lives: &[LifeLine], names: &[&[u8]]) -> u16
-    requires { length lives.now ≤ 12 }
+    requires { length lives.now ≤ MOST_LIVES }
     ensures { result ≡ mask_of_names (life_names lives.now) (map (λ name. name.now) names.now) }
 {
     let mut mask = 0;

@@ -13,16 +13,13 @@ ghost use Rattle.halo_parse.specs.Usable.{IsUsableSymbol};
 
 use crate::masks::mask_of_causes;
 use crate::status_from::{members_from, status_from};
-use halo_check::{Memory, number_within, rank_within, years_within};
+use halo_check::{GREATEST_AMOUNT, MOST_LIVES, Memory, number_within, rank_within, years_within};
 use halo_contract::LifeLine;
 use halo_status::{Mark, Pay, Status, Vary};
 use halo_symbol as written;
 use halo_symbol::{Body, Symbol};
 use halo_table::Tables;
 use std::alloc::Global;
-
-// The greatest amount.
-const GREATEST_AMOUNT: u64 = 10_000_000_000;
 
 /// The pay of an amount that a symbol writes, where the names in its body are those of the lives
 /// and the causes are those of the tables.
@@ -34,9 +31,9 @@ pub fn pay_from(
     tables: &Tables,
 ) -> Result<Pay, Memory>
     requires number { IsNumber amount.now }
-    requires amount { IsUpTo (10 ^ 10) amount.now }
+    requires amount { IsUpTo GREATEST_AMOUNT amount.now }
     requires usable { IsUsableSymbol (life_names lives.now) (plain_symbol symbol.now) }
-    requires few { length lives.now ≤ 12 }
+    requires few { length lives.now ≤ MOST_LIVES }
     ensures { let lives = life_names lives.now in
         IfOk result (λ pay. pay_of pay
         ≡ pay_written lives tables.now.causes amount.now (plain_symbol symbol.now)) }
@@ -91,7 +88,7 @@ fn causes_from(symbol: &Symbol<'_>, tables: &Tables) -> Option<u8>
 #[tactic(auto, using(halo_symbol::proofs::Shapes::shapes, halo_status::proofs::Shapes::shapes))]
 fn content_from(alloc: Global, symbol: &Symbol<'_>, lives: &[LifeLine]) -> Result<Status, Memory>
     requires usable { IsUsableSymbol (life_names lives.now) (plain_symbol symbol.now) }
-    requires few { length lives.now ≤ 12 }
+    requires few { length lives.now ≤ MOST_LIVES }
     ensures { IfOk result (λ status. tree_of status
         ≡ tree_of_symbol (place_of (life_names lives.now)) (plain_symbol symbol.now)) }
 {

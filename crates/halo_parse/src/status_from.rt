@@ -7,7 +7,7 @@ ghost use Rattle.halo_check.specs.Draft.{place_of};
 ghost use Rattle.halo_contract.specs.PlainContract.{life_names};
 ghost use Rattle.halo_parse.specs.Usable.{AreUsable, IsUsable, IsUsableBody};
 
-use halo_check::{Memory, place_of_life, rank_within, years_within};
+use halo_check::{MOST_LIVES, Memory, place_of_life, rank_within, years_within};
 use halo_contract::LifeLine;
 use halo_status::{Members, Status};
 use halo_symbol as written;
@@ -20,7 +20,7 @@ use std::alloc::Global;
 #[tactic(auto, using(halo_symbol::proofs::Shapes::shapes, halo_status::proofs::Shapes::shapes))]
 pub fn status_from(alloc: Global, body: &Body<'_>, lives: &[LifeLine]) -> Result<Status, Memory>
     requires usable { IsUsableBody (life_names lives.now) (plain_body body.now) }
-    requires few { length lives.now ≤ 12 }
+    requires few { length lives.now ≤ MOST_LIVES }
     ensures { IfOk result
         (λ status. tree_of status
         ≡ tree_of_body (place_of (life_names lives.now)) (plain_body body.now)) }
@@ -43,7 +43,7 @@ fn list_from(
     lives: &[LifeLine],
 ) -> Result<Status, Memory>
     requires usable { AreUsable (life_names lives.now) (plain_members members.now) }
-    requires few { length lives.now ≤ 12 }
+    requires few { length lives.now ≤ MOST_LIVES }
     ensures { IfOk result
         (λ status. tree_of status
         ≡ tree_of_list (place_of (life_names lives.now)) (plain_members members.now)) }
@@ -63,7 +63,7 @@ pub fn members_from(
     lives: &[LifeLine],
 ) -> Result<Members, Memory>
     requires usable { AreUsable (life_names lives.now) (plain_members members.now) }
-    requires few { length lives.now ≤ 12 }
+    requires few { length lives.now ≤ MOST_LIVES }
     ensures { IfOk result
         (λ all. trees_in all
         ≡ trees_of_members (place_of (life_names lives.now)) (plain_members members.now)) }
@@ -80,7 +80,7 @@ pub fn members_from(
 #[tactic(auto, using(halo_symbol::proofs::Shapes::shapes, halo_status::proofs::Shapes::shapes))]
 fn member_from(alloc: Global, member: &Node<'_>, lives: &[LifeLine]) -> Result<Status, Memory>
     requires usable { IsUsable (life_names lives.now) (plain_node member.now) }
-    requires few { length lives.now ≤ 12 }
+    requires few { length lives.now ≤ MOST_LIVES }
     ensures { IfOk result
         (λ status. tree_of status
         ≡ tree_of_node (place_of (life_names lives.now)) (plain_node member.now)) }
@@ -104,7 +104,7 @@ fn member_from(alloc: Global, member: &Node<'_>, lives: &[LifeLine]) -> Result<S
 // The number of the life of this name.
 fn number_of_life(lives: &[LifeLine], name: &[u8]) -> u8
     requires declared { Contains (life_names lives.now) name.now }
-    requires few { length lives.now ≤ 12 }
+    requires few { length lives.now ≤ MOST_LIVES }
     ensures { result ≡ place_of (life_names lives.now) name.now }
 {
     match place_of_life(lives, name) {

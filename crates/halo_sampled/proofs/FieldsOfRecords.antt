@@ -47,7 +47,7 @@ cause-new (suc (suc (suc (suc (suc j))))) low high = absurd (omega (arith, high)
 -- record 1 is as it has to be
 pub header-fine : IsHeader header_fields
 header-fine = record {
-  four = omega arith;
+  some_cause = omega arith;
   table = refl;
   age = refl;
   survivors = refl;

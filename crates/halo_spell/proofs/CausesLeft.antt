@@ -47,9 +47,11 @@ module _ (names : List (List ℕ)) (mask k : ℕ) (here : k < length names) wher
 -- a set that is not empty has a name
 pub some_name : (names : List (List ℕ)) (mask : ℕ) → 1 ≤ mask → mask < 2 ^ length names → names_in names mask ≢ []
 some_name [] mask some few e = absurd (omega arith)
-some_name (name ∷ names) mask some few e = go (nat_eq (mask % 2) 1) refl (λ half_some half_few. some_name names (mask / 2) half_some half_few) e
+some_name (name ∷ names) mask some few e =
+    go (nat_eq (mask % 2) 1) refl (λ half_some half_few. some_name names (mask / 2) half_some half_few) e
   where
-    go : (b : Bool) → nat_eq (mask % 2) 1 ≡ b → (1 ≤ mask / 2 → mask / 2 < 2 ^ length names → names_in names (mask / 2) ≢ [])
+    go : (b : Bool) → nat_eq (mask % 2) 1 ≡ b
+        → (1 ≤ mask / 2 → mask / 2 < 2 ^ length names → names_in names (mask / 2) ≢ [])
         → chosen (name ∷ names) (b ∷ bits (length names) (mask / 2)) ≡ [] → ⊥
     go true is others none = absurd cc
     go false is others none =
@@ -58,7 +60,8 @@ some_name (name ∷ names) mask some few e = go (nat_eq (mask % 2) 1) refl (λ h
         others (omega arith) (omega arith) none
 
 -- the next name is written, with `,` before the one behind it
-pub one_written : (a b c name : List ℕ) (sign : ℕ) (names : List (List ℕ)) → b ≡ a ++ sign ∷ [] → c ≡ b ++ name → c ++ set_bytes comma names ≡ a ++ set_bytes sign (name ∷ names)
+pub one_written : (a b c name : List ℕ) (sign : ℕ) (names : List (List ℕ)) → b ≡ a ++ sign ∷ [] → c ≡ b ++ name
+    → c ++ set_bytes comma names ≡ a ++ set_bytes sign (name ∷ names)
 one_written a b c name sign names e f = rw (f, e) (simp append_assoc)
 
 -- the number of a place is in a set where that bit is 1
@@ -70,7 +73,9 @@ pub none_left : (names : List (List ℕ)) (mask k : ℕ) → length names ≤ k 
 none_left names mask k past = rw (drop_all k names past) refl
 
 -- from the first place on all names of the set are left
-pub all_names_left : (names : List (List ℕ)) (mask : ℕ) → 1 ≤ mask → mask < 2 ^ length names → set_bytes brace_open (names_from names mask 0) ≡ causes_bytes (set_of (names_in names mask)) []
+pub all_names_left : (names : List (List ℕ)) (mask : ℕ) → 1 ≤ mask → mask < 2 ^ length names
+    → set_bytes brace_open (names_from names mask 0) ≡ causes_bytes (set_of (names_in names mask)) []
 all_names_left names mask some few =
     let whole : mask / 2 ^ 0 ≡ mask = omega arith in
-    ap (λ m. set_bytes brace_open (names_in names m)) whole ∙ set_of_names (names_in names mask) (some_name names mask some few)
+    ap (λ m. set_bytes brace_open (names_in names m)) whole
+    ∙ set_of_names (names_in names mask) (some_name names mask some few)

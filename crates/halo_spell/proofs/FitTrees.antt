@@ -53,11 +53,20 @@ module _ (bound : ℕ) where
     lives_below (last ms) below = (tt, lives_below_in ms below)
     lives_below (at_least r ms) below = (tt, lives_below_in ms below)
     lives_below (exactly r ms) below = (tt, lives_below_in ms below)
-    lives_below (after s t) below = (tt, lives_below s (λ i named. below i (or-left _ _ named)), lives_below t (λ i named. below i (or-right (names_life i s) _ named)))
+    lives_below (after s t) below = (
+      tt,
+      lives_below s (λ i named. below i (or-left _ _ named)),
+      lives_below t
+          (λ i named. below i (or-right (names_life i s) _ named)),
+    )
 
     lives_below_in : (ms : Trees) → AnyNamesLivesBelow bound ms → AtEachNodeIn (IsLifeBelow bound) ms
     lives_below_in none below = tt
-    lives_below_in (more s ms) below = (lives_below s (λ i named. below i (or-left _ _ named)), lives_below_in ms (λ i named. below i (or-right (names_life i s) _ named)))
+    lives_below_in (more s ms) below = (
+      lives_below s (λ i named. below i (or-left _ _ named)),
+      lives_below_in ms
+          (λ i named. below i (or-right (names_life i s) _ named)),
+    )
 
   -- what each fact says of a node
   abbrev All4 : Tree → Type 0
@@ -73,17 +82,27 @@ module _ (bound : ℕ) where
   fit_one (after s t) p two = tt
 
   -- the members of a status with those facts are fit
-  pub fit_in : (ms : Trees) → AnyNamesLivesBelow bound ms → AtEachNodeIn HasLength ms → AtEachNodeIn HasShortList ms → AtEachNodeIn HasRank ms → AtEachNodeIn IsJointOfTwo ms → AtEachNodeIn (IsFit bound) ms
+  pub fit_in : (ms : Trees) → AnyNamesLivesBelow bound ms → AtEachNodeIn HasLength ms → AtEachNodeIn HasShortList ms
+      → AtEachNodeIn HasRank ms → AtEachNodeIn IsJointOfTwo ms → AtEachNodeIn (IsFit bound) ms
   fit_in ms below lengths short ranks two =
-      let a = at_each_in_both (IsLifeBelow bound) HasLength (λ s. IsLifeBelow bound s × HasLength s) (λ s p q. (p, q)) ms (lives_below_in ms below) lengths in
+      let a =
+      at_each_in_both (IsLifeBelow bound) HasLength (λ s. IsLifeBelow bound s × HasLength s) (λ s p q. (p, q)) ms
+      (lives_below_in ms below) lengths in
       let b = at_each_in_both HasShortList HasRank (λ s. HasShortList s × HasRank s) (λ s p q. (p, q)) ms short ranks in
-      let c = at_each_in_both (λ s. IsLifeBelow bound s × HasLength s) (λ s. HasShortList s × HasRank s) All4 (λ s p q. (p, q)) ms a b in
+      let c =
+      at_each_in_both (λ s. IsLifeBelow bound s × HasLength s) (λ s. HasShortList s × HasRank s) All4
+      (λ s p q. (p, q)) ms a b in
       at_each_in_both All4 IsJointOfTwo (IsFit bound) fit_one ms c two
 
   -- and so is a status with them
-  pub fit : (s : Tree) → NamesLivesBelow bound s → AtEachNode HasLength s → AtEachNode HasShortList s → AtEachNode HasRank s → AtEachNode IsJointOfTwo s → AtEachNode (IsFit bound) s
+  pub fit : (s : Tree) → NamesLivesBelow bound s → AtEachNode HasLength s → AtEachNode HasShortList s
+      → AtEachNode HasRank s → AtEachNode IsJointOfTwo s → AtEachNode (IsFit bound) s
   fit s below lengths short ranks two =
-      let a = at_each_both (IsLifeBelow bound) HasLength (λ s. IsLifeBelow bound s × HasLength s) (λ s p q. (p, q)) s (lives_below s below) lengths in
+      let a =
+      at_each_both (IsLifeBelow bound) HasLength (λ s. IsLifeBelow bound s × HasLength s) (λ s p q. (p, q)) s
+      (lives_below s below) lengths in
       let b = at_each_both HasShortList HasRank (λ s. HasShortList s × HasRank s) (λ s p q. (p, q)) s short ranks in
-      let c = at_each_both (λ s. IsLifeBelow bound s × HasLength s) (λ s. HasShortList s × HasRank s) All4 (λ s p q. (p, q)) s a b in
+      let c =
+      at_each_both (λ s. IsLifeBelow bound s × HasLength s) (λ s. HasShortList s × HasRank s) All4 (λ s p q. (p, q))
+      s a b in
       at_each_both All4 IsJointOfTwo (IsFit bound) fit_one s c two

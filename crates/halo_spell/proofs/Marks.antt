@@ -12,8 +12,10 @@ use Rattle.halo_status.proofs.Shapes.{tree_of-After, tree_of-AtLeast, tree_of-Ex
 -- a status that is not joint
 abbrev pub IsOther : Status → Type 0
 IsOther now =
-    ((i : ℕ) × (now ≡ Life i)) ⊎ ((n : ℕ) × (now ≡ Term n)) ⊎ ((ms : List Status) × (now ≡ Last ms)) ⊎ ((r : ℕ) × (ms : List Status) × (now ≡ AtLeast r ms))
-    ⊎ ((r : ℕ) × (ms : List Status) × (now ≡ Exactly r ms)) ⊎ ((s : Box Status Global) × (t : Box Status Global) × (now ≡ After s t))
+    ((i : ℕ) × (now ≡ Life i)) ⊎ ((n : ℕ) × (now ≡ Term n)) ⊎ ((ms : List Status) × (now ≡ Last ms))
+    ⊎ ((r : ℕ) × (ms : List Status) × (now ≡ AtLeast r ms))
+    ⊎ ((r : ℕ) × (ms : List Status) × (now ≡ Exactly r ms))
+    ⊎ ((s : Box Status Global) × (t : Box Status Global) × (now ≡ After s t))
 
 unmarkable : (now : Status) (mark : Mark) → IsOther now → CanBeMarked (tree_of now) mark → ⊥
 unmarkable now mark (inl h) can = rw (h.1, tree_of-Life h.0) at can

@@ -20,11 +20,13 @@ use Rattle.halo_spell.proofs.FitTrees.{IsFit}
 use Rattle.halo_spell.proofs.NumbersBack.{IsNumber-decimal, number-decimal}
 
 -- a list has as many members as the status
-member_count-row : (names : List (List ℕ)) (first : Node) (ms : Trees) → member_count (canonical_row names first ms) ≡ status.member_count ms + 1
+member_count-row : (names : List (List ℕ)) (first : Node) (ms : Trees)
+    → member_count (canonical_row names first ms) ≡ status.member_count ms + 1
 member_count-row names first status.none = omega arith
 member_count-row names first (status.more s ms) = omega (arith, member_count-row names (canonical_node names s) ms)
 
-pub member_count-canonical : (names : List (List ℕ)) (ms : Trees) → 1 ≤ status.member_count ms → member_count (canonical_members names ms) ≡ status.member_count ms
+pub member_count-canonical : (names : List (List ℕ)) (ms : Trees) → 1 ≤ status.member_count ms
+    → member_count (canonical_members names ms) ≡ status.member_count ms
 member_count-canonical names status.none some = absurd (omega arith)
 member_count-canonical names (status.more s ms) some = member_count-row names (canonical_node names s) ms
 
@@ -38,7 +40,8 @@ pub record AreFacts (names : List (List ℕ)) (bound : ℕ) (P : Node → Type 0
   pub at_group : (body : Body) → P (group body)
   pub at_list : (ms : Members) → member_count ms ≤ 16 → Q ms
 
-module _ (names : List (List ℕ)) (bound : ℕ) (P : Node → Type 0) (Q : Members → Type 0) (facts : AreFacts names bound P Q) where
+module _ (names : List (List ℕ)) (bound : ℕ) (P : Node → Type 0) (Q : Members → Type 0)
+    (facts : AreFacts names bound P Q) where
   -- a member as a list, and as a body
   each-list_of : (m : Node) → AtEach P Q m → Q (list_of m) × AtEachMember P Q (list_of m)
   each-list_of (life name) h = (facts.at_list (one (life name)) (omega arith), h)
@@ -61,27 +64,46 @@ module _ (names : List (List ℕ)) (bound : ℕ) (P : Node → Type 0) (Q : Memb
   few : (ms : Trees) → 1 ≤ status.member_count ms → status.member_count ms ≤ 16 → Q (canonical_members names ms)
   few ms some most = facts.at_list (canonical_members names ms) (omega (arith, member_count-canonical names ms some))
 
-  sides : {ms ns : Members} → Q ms × AtEachMember P Q ms → Q ns × AtEachMember P Q ns → AtEachOfBody P Q (reversion ms ns)
+  sides : {ms ns : Members} → Q ms × AtEachMember P Q ms → Q ns × AtEachMember P Q ns
+      → AtEachOfBody P Q (reversion ms ns)
   sides a b = (a, b.0, b.1)
 
   mutual
     pub each-node : (s : Tree) → AtEachNode (IsFit bound) s → AtEach P Q (canonical_node names s)
     each-node (status.life i) fit = facts.at_life i fit
     each-node (status.term n) fit = facts.at_term n fit
-    each-node (status.joint ms) fit = (facts.at_group (list (canonical_members names ms)), (few ms (omega (arith, fit.0.0)) fit.0.1, each-members ms (omega (arith, fit.0.0)) fit.1))
-    each-node (status.last ms) fit = (facts.at_last (canonical_members names ms), few ms fit.0.0 fit.0.1, each-members ms fit.0.0 fit.1)
-    each-node (status.at_least r ms) fit =
-        (facts.at_at_least r (canonical_members names ms) (omega (arith, fit.0.1.1, fit.0.0.1)), few ms fit.0.0.0 fit.0.0.1, each-members ms fit.0.0.0 fit.1)
-    each-node (status.exactly r ms) fit =
-        (facts.at_exactly r (canonical_members names ms) (omega (arith, fit.0.1.1, fit.0.0.1)), few ms fit.0.0.0 fit.0.0.1, each-members ms fit.0.0.0 fit.1)
-    each-node (status.after s t) fit =
-        (facts.at_group (reversion (list_of (canonical_node names s)) (list_of (canonical_node names t))), sides (each-list_of (canonical_node names s) (each-node s fit.1)) (each-list_of (canonical_node names t) (each-node t fit.2)))
+    each-node (status.joint ms) fit = (
+      facts.at_group (list (canonical_members names ms)),
+      (few ms (omega (arith, fit.0.0)) fit.0.1, each-members ms (omega (arith, fit.0.0)) fit.1),
+    )
+    each-node (status.last ms) fit =
+        (facts.at_last (canonical_members names ms), few ms fit.0.0 fit.0.1, each-members ms fit.0.0 fit.1)
+    each-node (status.at_least r ms) fit = (
+      facts.at_at_least r (canonical_members names ms) (omega (arith, fit.0.1.1, fit.0.0.1)),
+      few ms fit.0.0.0
+          fit.0.0.1,
+      each-members ms fit.0.0.0 fit.1,
+    )
+    each-node (status.exactly r ms) fit = (
+      facts.at_exactly r (canonical_members names ms) (omega (arith, fit.0.1.1, fit.0.0.1)),
+      few ms fit.0.0.0
+          fit.0.0.1,
+      each-members ms fit.0.0.0 fit.1,
+    )
+    each-node (status.after s t) fit = (
+      facts.at_group (reversion (list_of (canonical_node names s)) (list_of (canonical_node names t))),
+      sides
+          (each-list_of (canonical_node names s) (each-node s fit.1))
+          (each-list_of (canonical_node names t) (each-node t fit.2)),
+    )
 
-    pub each-members : (ms : Trees) → 1 ≤ status.member_count ms → AtEachNodeIn (IsFit bound) ms → AtEachMember P Q (canonical_members names ms)
+    pub each-members : (ms : Trees) → 1 ≤ status.member_count ms → AtEachNodeIn (IsFit bound) ms
+        → AtEachMember P Q (canonical_members names ms)
     each-members status.none some fit = absurd (omega arith)
     each-members (status.more s ms) some fit = each-row (canonical_node names s) ms (each-node s fit.0) fit.1
 
-    each-row : (first : Node) (ms : Trees) → AtEach P Q first → AtEachNodeIn (IsFit bound) ms → AtEachMember P Q (canonical_row names first ms)
+    each-row : (first : Node) (ms : Trees) → AtEach P Q first → AtEachNodeIn (IsFit bound) ms
+        → AtEachMember P Q (canonical_row names first ms)
     each-row first status.none h fit = h
     each-row first (status.more s ms) h fit = (h, each-row (canonical_node names s) ms (each-node s fit.0) fit.1)
 
@@ -90,11 +112,13 @@ module _ (names : List (List ℕ)) (bound : ℕ) (P : Node → Type 0) (Q : Memb
   each-body s fit = each-body_of (canonical_node names s) (each-node s fit)
 
   -- a joint status by itself, which may have one member
-  pub each-joint : (ms : Trees) → 1 ≤ status.member_count ms → status.member_count ms ≤ 16 → AtEachNodeIn (IsFit bound) ms → AtEachOfBody P Q (canonical_body names (status.joint ms))
+  pub each-joint : (ms : Trees) → 1 ≤ status.member_count ms → status.member_count ms ≤ 16
+      → AtEachNodeIn (IsFit bound) ms → AtEachOfBody P Q (canonical_body names (status.joint ms))
   each-joint ms some most fit = (few ms some most, each-members ms some fit)
 
 -- a member, a term and a number within their limits
-within_facts : (names : List (List ℕ)) → All IsShortName names → AreFacts names (length names) IsMemberWithin IsListWithin
+within_facts : (names : List (List ℕ)) → All IsShortName names
+    → AreFacts names (length names) IsMemberWithin IsListWithin
 within_facts names short = record {
   at_life = λ i below. All-get_or IsShortName names i [] below short;
   at_term = λ n is. rw (number-decimal n (omega (arith, is.1))) is.1;
@@ -168,7 +192,9 @@ proper_facts names plain = record {
 
 -- a status that can be written by itself: fit, or joint of fit members, of which there may be one
 abbrev pub IsFitBody : ℕ → Tree → Type 0
-IsFitBody bound s = AtEachNode (IsFit bound) s ⊎ ((ms : Trees) × (s ≡ status.joint ms) × (1 ≤ status.member_count ms) × (status.member_count ms ≤ 16) × AtEachNodeIn (IsFit bound) ms)
+IsFitBody bound s =
+    AtEachNode (IsFit bound) s ⊎ ((ms : Trees) × (s ≡ status.joint ms) × (1 ≤ status.member_count ms)
+    × (status.member_count ms ≤ 16) × AtEachNodeIn (IsFit bound) ms)
 
 -- what its canonical tree is
 pub record IsGoodBody (names : List (List ℕ)) (body : Body) : Type 0 where
@@ -178,9 +204,11 @@ pub record IsGoodBody (names : List (List ℕ)) (body : Body) : Type 0 where
   pub declared : parts.AtEachNode (IsDeclared names) body
 
 module _ (names : List (List ℕ)) (plain : All IsPlainName names) (short : All IsShortName names) where
-  at_body : (P : Node → Type 0) (Q : Members → Type 0) → AreFacts names (length names) P Q → (s : Tree) → IsFitBody (length names) s → AtEachOfBody P Q (canonical_body names s)
+  at_body : (P : Node → Type 0) (Q : Members → Type 0) → AreFacts names (length names) P Q → (s : Tree)
+      → IsFitBody (length names) s → AtEachOfBody P Q (canonical_body names s)
   at_body P Q facts s (inl fit) = each-body names (length names) P Q facts s fit
-  at_body P Q facts s (inr (ms, is, some, most, fit)) = rw is (each-joint names (length names) P Q facts ms some most fit)
+  at_body P Q facts s (inr (ms, is, some, most, fit)) =
+      rw is (each-joint names (length names) P Q facts ms some most fit)
 
   pub good-canonical_body : (s : Tree) → IsFitBody (length names) s → IsGoodBody names (canonical_body names s)
   good-canonical_body s fit = record {

@@ -30,7 +30,8 @@ pub record IsSpelledPay (lives causes : List (List ℕ)) (pay : PlainPay) : Type
   pub among : IsValidAmong (length lives) (length causes) pay
   pub causes_plain : IfSome pay.causes (λ mask. All IsPlainName (names_in causes mask))
   pub fit : IsFitBody (length lives) pay.body
-  pub content : tree_of_content (place_of lives) (option_map canonical_mark pay.mark) (canonical_body lives pay.body) ≡ pay.body
+  pub content : tree_of_content (place_of lives) (option_map canonical_mark pay.mark) (canonical_body lives pay.body)
+      ≡ pay.body
   pub depth : nest_body (canonical_body lives pay.body) ≤ 16
 
 vary_back : (vary : Vary) → HasValidVary vary → vary_of (canonical_vary vary) ≡ vary
@@ -43,21 +44,26 @@ defer_back zero few = refl
 defer_back (suc years) few = number-decimal (suc years) (omega arith)
 
 -- the set of some names has their mask
-set_back : (causes names : List (List ℕ)) → names ≢ [] → causes_of causes (set_of names) ≡ Some (mask_of_names causes names)
+set_back : (causes names : List (List ℕ)) → names ≢ []
+    → causes_of causes (set_of names) ≡ Some (mask_of_names causes names)
 set_back causes [] some = absurd (some refl)
 set_back causes (name ∷ names) some = refl
 
-causes_back : (causes : List (List ℕ)) (kind : Kind) → AreDifferent causes → (set : Option ℕ) → IfSome set (λ mask. (kind ≡ Insurance) × (1 ≤ mask)) → IfSome set (λ mask. mask < 2 ^ length causes)
+causes_back : (causes : List (List ℕ)) (kind : Kind) → AreDifferent causes → (set : Option ℕ)
+    → IfSome set (λ mask. (kind ≡ Insurance) × (1 ≤ mask)) → IfSome set (λ mask. mask < 2 ^ length causes)
     → causes_of causes (option_and_then (λ mask. set_of (names_in causes mask)) set) ≡ set
 causes_back causes kind different None valid known = refl
-causes_back causes kind different (Some mask) valid known = set_back causes (names_in causes mask) (some_name causes mask valid.1 known) ∙ ap Some (mask_back causes mask different known)
+causes_back causes kind different (Some mask) valid known =
+    set_back causes (names_in causes mask) (some_name causes mask valid.1 known)
+    ∙ ap Some (mask_back causes mask different known)
 
 -- the rank of a mark is at most 16
 low_rank : (s : Tree) (mark : Mark) → AtEachNode HasShortList s → CanBeMarked s mark → mark.rank ≤ 16
 low_rank (status.joint ms) mark short can = omega (arith, can.rank.1, short.0.1)
 low_rank s mark short can = absurd can
 
-pub low_marks : (s : Tree) (kind : Kind) (mark : Option Mark) → AtEachNode HasShortList s → IfSome mark (λ m. (kind ≡ Insurance) × CanBeMarked s m) → IfSome mark (λ m. m.rank ≤ 16)
+pub low_marks : (s : Tree) (kind : Kind) (mark : Option Mark) → AtEachNode HasShortList s
+    → IfSome mark (λ m. (kind ≡ Insurance) × CanBeMarked s m) → IfSome mark (λ m. m.rank ≤ 16)
 low_marks s kind None short can = tt
 low_marks s kind (Some mark) short can = low_rank s mark short can.1
 
@@ -65,7 +71,8 @@ mark_back : (mark : Option Mark) → IfSome mark (λ m. m.rank ≤ 16) → mark_
 mark_back None low = refl
 mark_back (Some m) low = rw (number-decimal m.rank (omega arith)) refl
 
-pub pay_back : (lives causes : List (List ℕ)) (pay : PlainPay) → AreDifferent causes → IsSpelledPay lives causes pay → pay_written lives causes (decimal pay.amount) (canonical_symbol lives causes pay) ≡ pay
+pub pay_back : (lives causes : List (List ℕ)) (pay : PlainPay) → AreDifferent causes → IsSpelledPay lives causes pay
+    → pay_written lives causes (decimal pay.amount) (canonical_symbol lives causes pay) ≡ pay
 pay_back lives causes pay different is =
     let valid = is.among.valid in
     let low = low_marks pay.body pay.kind pay.mark valid.lists valid.mark in

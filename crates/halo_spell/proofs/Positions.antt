@@ -18,27 +18,43 @@ at_any P alone side member Member = member
 module _ (names : List (List ℕ)) where
   -- a status that is neither joint nor a reversion is written the same wherever it stands
   pub bytes_at-life : (p : Position) (i : ℕ) → bytes_at p names (life i) ≡ node_bytes (canonical_node names (life i)) []
-  bytes_at-life p i = at_any (λ p. bytes_at p names (life i) ≡ node_bytes (canonical_node names (life i)) []) refl refl refl p
+  bytes_at-life p i =
+      at_any (λ p. bytes_at p names (life i) ≡ node_bytes (canonical_node names (life i)) []) refl refl refl p
 
   pub bytes_at-term : (p : Position) (n : ℕ) → bytes_at p names (term n) ≡ node_bytes (canonical_node names (term n)) []
-  bytes_at-term p n = at_any (λ p. bytes_at p names (term n) ≡ node_bytes (canonical_node names (term n)) []) refl refl refl p
+  bytes_at-term p n =
+      at_any (λ p. bytes_at p names (term n) ≡ node_bytes (canonical_node names (term n)) []) refl refl refl p
 
-  pub bytes_at-last : (p : Position) (ms : Trees) → bytes_at p names (last ms) ≡ node_bytes (canonical_node names (last ms)) []
-  bytes_at-last p ms = at_any (λ p. bytes_at p names (last ms) ≡ node_bytes (canonical_node names (last ms)) []) refl refl refl p
+  pub bytes_at-last : (p : Position) (ms : Trees)
+      → bytes_at p names (last ms) ≡ node_bytes (canonical_node names (last ms)) []
+  bytes_at-last p ms =
+      at_any (λ p. bytes_at p names (last ms) ≡ node_bytes (canonical_node names (last ms)) []) refl refl refl p
 
-  pub bytes_at-at_least : (p : Position) (r : ℕ) (ms : Trees) → bytes_at p names (at_least r ms) ≡ node_bytes (canonical_node names (at_least r ms)) []
-  bytes_at-at_least p r ms = at_any (λ p. bytes_at p names (at_least r ms) ≡ node_bytes (canonical_node names (at_least r ms)) []) refl refl refl p
+  pub bytes_at-at_least : (p : Position) (r : ℕ) (ms : Trees)
+      → bytes_at p names (at_least r ms) ≡ node_bytes (canonical_node names (at_least r ms)) []
+  bytes_at-at_least p r ms =
+      at_any (λ p. bytes_at p names (at_least r ms) ≡ node_bytes (canonical_node names (at_least r ms)) []) refl refl
+      refl p
 
-  pub bytes_at-exactly : (p : Position) (r : ℕ) (ms : Trees) → bytes_at p names (exactly r ms) ≡ node_bytes (canonical_node names (exactly r ms)) []
-  bytes_at-exactly p r ms = at_any (λ p. bytes_at p names (exactly r ms) ≡ node_bytes (canonical_node names (exactly r ms)) []) refl refl refl p
+  pub bytes_at-exactly : (p : Position) (r : ℕ) (ms : Trees)
+      → bytes_at p names (exactly r ms) ≡ node_bytes (canonical_node names (exactly r ms)) []
+  bytes_at-exactly p r ms =
+      at_any (λ p. bytes_at p names (exactly r ms) ≡ node_bytes (canonical_node names (exactly r ms)) []) refl refl refl
+      p
 
   -- a joint status has no brackets but as a member
-  pub bytes_at-joint : (p : Position) (ms : Trees) → p ≢ Member → bytes_at p names (joint ms) ≡ members_bytes (canonical_members names ms) []
-  bytes_at-joint p ms = at_any (λ p. p ≢ Member → bytes_at p names (joint ms) ≡ members_bytes (canonical_members names ms) []) (λ h. refl) (λ h. refl) (λ h. absurd (h refl)) p
+  pub bytes_at-joint : (p : Position) (ms : Trees) → p ≢ Member
+      → bytes_at p names (joint ms) ≡ members_bytes (canonical_members names ms) []
+  bytes_at-joint p ms =
+      at_any (λ p. p ≢ Member → bytes_at p names (joint ms) ≡ members_bytes (canonical_members names ms) []) (λ h. refl)
+      (λ h. refl) (λ h. absurd (h refl)) p
 
   -- a reversion has brackets but by itself
   pub bytes_at-after : (p : Position) (s t : Tree) → p ≢ Alone
-      → bytes_at p names (after s t) ≡ round_open ∷ body_bytes (reversion (list_of (canonical_node names s)) (list_of (canonical_node names t))) (round_close ∷ [])
+      → bytes_at p names (after s t) ≡ round_open ∷ body_bytes
+      (reversion (list_of (canonical_node names s)) (list_of (canonical_node names t))) (round_close ∷ [])
   bytes_at-after p s t =
-      at_any (λ p. p ≢ Alone → bytes_at p names (after s t) ≡ round_open ∷ body_bytes (reversion (list_of (canonical_node names s)) (list_of (canonical_node names t))) (round_close ∷ []))
+      at_any (λ p. p ≢ Alone → bytes_at p names (after s t)
+      ≡ round_open ∷ body_bytes (reversion (list_of (canonical_node names s)) (list_of (canonical_node names t)))
+      (round_close ∷ []))
       (λ h. absurd (h refl)) (λ h. refl) (λ h. refl) p

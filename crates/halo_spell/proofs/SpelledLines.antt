@@ -43,30 +43,48 @@ pub record IsNamed (names : List (List ℕ)) : Type 0 where
   pub different : AreDifferent names
 
 -- the names of a set of causes
-causes_plain : (causes : List (List ℕ)) (set : Option Names) → IfSome set AreProperNames → IfSome (causes_of causes set) (λ mask. All IsPlainName (names_in causes mask))
+causes_plain : (causes : List (List ℕ)) (set : Option Names) → IfSome set AreProperNames
+    → IfSome (causes_of causes set) (λ mask. All IsPlainName (names_in causes mask))
 causes_plain causes None proper = tt
-causes_plain causes (Some names) proper = All-names_of_mask IsPlainName causes (all_names names) (All-cons IsPlainName names.first names.others proper.0 proper.1)
+causes_plain causes (Some names) proper =
+    All-names_of_mask IsPlainName causes (all_names names)
+    (All-cons IsPlainName names.first names.others proper.0 proper.1)
 
 module _ (names : List (List ℕ)) (different : AreDifferent names) where
   back : (i : ℕ) → i < length names → place_of names (name_at names i) ≡ i
   back i below = place_back names i different below
 
   -- a status that is written with these names is fit, and its canonical tree means it
-  fit_body : (body : Body) → NamesLivesBelow (length names) (tree_of_body (place_of names) body) → AtEachNode HasLength (tree_of_body (place_of names) body)
-      → AtEachNode HasShortList (tree_of_body (place_of names) body) → AtEachNode HasRank (tree_of_body (place_of names) body) → AtEachNode (IsFit (length names)) (tree_of_body (place_of names) body)
-  fit_body body below lengths short ranks = fit (length names) (tree_of_body (place_of names) body) below lengths short ranks (two-body (place_of names) body)
+  fit_body : (body : Body) → NamesLivesBelow (length names) (tree_of_body (place_of names) body)
+      → AtEachNode HasLength (tree_of_body (place_of names) body)
+      → AtEachNode HasShortList (tree_of_body (place_of names) body)
+      → AtEachNode HasRank (tree_of_body (place_of names) body)
+      → AtEachNode (IsFit (length names)) (tree_of_body (place_of names) body)
+  fit_body body below lengths short ranks =
+      fit (length names) (tree_of_body (place_of names) body) below lengths short ranks (two-body (place_of names) body)
 
-  fit_content : (mark : Option written.Mark) (body : Body) → NamesLivesBelow (length names) (tree_of_content (place_of names) mark body) → AtEachNode HasLength (tree_of_content (place_of names) mark body)
-      → AtEachNode HasShortList (tree_of_content (place_of names) mark body) → AtEachNode HasRank (tree_of_content (place_of names) mark body)
+  fit_content : (mark : Option written.Mark) (body : Body)
+      → NamesLivesBelow (length names) (tree_of_content (place_of names) mark body)
+      → AtEachNode HasLength (tree_of_content (place_of names) mark body)
+      → AtEachNode HasShortList (tree_of_content (place_of names) mark body) → AtEachNode HasRank
+      (tree_of_content (place_of names) mark body)
       → IsFitBody (length names) (tree_of_content (place_of names) mark body)
-      × (tree_of_content (place_of names) (option_map canonical_mark (mark_of mark)) (canonical_body names (tree_of_content (place_of names) mark body)) ≡ tree_of_content (place_of names) mark body)
-  fit_content None body below lengths short ranks = let f = fit_body body below lengths short ranks in (inl f, body_back (place_of names) names (length names) back _ f)
+      × (tree_of_content (place_of names) (option_map canonical_mark (mark_of mark))
+      (canonical_body names (tree_of_content (place_of names) mark body))
+      ≡ tree_of_content (place_of names) mark body)
+  fit_content None body below lengths short ranks =
+      let f = fit_body body below lengths short ranks in
+      (inl f, body_back (place_of names) names (length names) back _ f)
   fit_content (Some mark) (list ms) below lengths short ranks =
       let ts = trees_of_members (place_of names) ms in
-      let f = fit_in (length names) ts below lengths.1 short.1 ranks.1 (two-members (place_of names) ms) in
-      (inr (ts, refl, short.0.0, short.0.1, f), ap status.joint (members_back (place_of names) names (length names) back ts short.0.0 f))
+      let f = fit_in (length names) ts below lengths.1 short.1 ranks.1 (two-members (place_of names) ms) in (
+        inr (ts, refl, short.0.0, short.0.1, f),
+        ap status.joint
+            (members_back (place_of names) names (length names) back ts short.0.0 f),
+      )
   fit_content (Some mark) (reversion ms ns) below lengths short ranks =
-      let f = fit_body (reversion ms ns) below lengths short ranks in (inl f, body_back (place_of names) names (length names) back (tree_of_body (place_of names) (reversion ms ns)) f)
+      let f = fit_body (reversion ms ns) below lengths short ranks in
+      (inl f, body_back (place_of names) names (length names) back (tree_of_body (place_of names) (reversion ms ns)) f)
 
 -- there are as many names as lives
 count_of_names : (d : Draft) → length (life_names d.lives) ≡ length d.lives

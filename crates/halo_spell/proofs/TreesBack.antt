@@ -29,7 +29,8 @@ module _ (life_of : List ℕ → ℕ) where
   body_of-same (group body) = refl
 
   -- a list of two members or more is joint
-  joint_list : (ms : Members) (ts : Trees) → trees_of_members life_of ms ≡ ts → 2 ≤ status.member_count ts → tree_of_list life_of ms ≡ status.joint ts
+  joint_list : (ms : Members) (ts : Trees) → trees_of_members life_of ms ≡ ts → 2 ≤ status.member_count ts
+      → tree_of_list life_of ms ≡ status.joint ts
   joint_list (one m) ts e two = let count = ap status.member_count e in absurd (omega arith)
   joint_list (and m ms) ts e two = ap status.joint e
 
@@ -38,20 +39,27 @@ module _ (life_of : List ℕ → ℕ) where
       pub node_back : (s : Tree) → AtEachNode (IsFit bound) s → tree_of_node life_of (canonical_node names s) ≡ s
       node_back (status.life i) fit = ap status.life (back i fit)
       node_back (status.term n) fit = ap status.term (number-decimal n (omega (arith, fit.1)))
-      node_back (status.joint ms) fit = joint_list (canonical_members names ms) ms (members_back ms (omega (arith, fit.0.0)) fit.1) fit.0.0
+      node_back (status.joint ms) fit =
+          joint_list (canonical_members names ms) ms (members_back ms (omega (arith, fit.0.0)) fit.1) fit.0.0
       node_back (status.last ms) fit = ap status.last (members_back ms fit.0.0 fit.1)
-      node_back (status.at_least r ms) fit = ap₂ status.at_least (number-decimal r (omega (arith, fit.0.1.1, fit.0.0.1))) (members_back ms fit.0.0.0 fit.1)
-      node_back (status.exactly r ms) fit = ap₂ status.exactly (number-decimal r (omega (arith, fit.0.1.1, fit.0.0.1))) (members_back ms fit.0.0.0 fit.1)
+      node_back (status.at_least r ms) fit =
+          ap₂ status.at_least (number-decimal r (omega (arith, fit.0.1.1, fit.0.0.1))) (members_back ms fit.0.0.0 fit.1)
+      node_back (status.exactly r ms) fit =
+          ap₂ status.exactly (number-decimal r (omega (arith, fit.0.1.1, fit.0.0.1))) (members_back ms fit.0.0.0 fit.1)
       node_back (status.after s t) fit =
-          ap₂ status.after (list_of-same (canonical_node names s) ∙ node_back s fit.1) (list_of-same (canonical_node names t) ∙ node_back t fit.2)
+          ap₂ status.after (list_of-same (canonical_node names s) ∙ node_back s fit.1)
+          (list_of-same (canonical_node names t) ∙ node_back t fit.2)
 
-      pub members_back : (ms : Trees) → 1 ≤ status.member_count ms → AtEachNodeIn (IsFit bound) ms → trees_of_members life_of (canonical_members names ms) ≡ ms
+      pub members_back : (ms : Trees) → 1 ≤ status.member_count ms → AtEachNodeIn (IsFit bound) ms
+          → trees_of_members life_of (canonical_members names ms) ≡ ms
       members_back status.none some fit = absurd (omega arith)
       members_back (status.more s ms) some fit = row_back (canonical_node names s) s ms (node_back s fit.0) fit.1
 
-      row_back : (first : Node) (s : Tree) (ms : Trees) → tree_of_node life_of first ≡ s → AtEachNodeIn (IsFit bound) ms → trees_of_members life_of (canonical_row names first ms) ≡ status.more s ms
+      row_back : (first : Node) (s : Tree) (ms : Trees) → tree_of_node life_of first ≡ s → AtEachNodeIn (IsFit bound) ms
+          → trees_of_members life_of (canonical_row names first ms) ≡ status.more s ms
       row_back first s status.none e fit = ap (λ t. status.more t status.none) e
-      row_back first s (status.more t ms) e fit = ap₂ status.more e (row_back (canonical_node names t) t ms (node_back t fit.0) fit.1)
+      row_back first s (status.more t ms) e fit =
+          ap₂ status.more e (row_back (canonical_node names t) t ms (node_back t fit.0) fit.1)
 
     -- so does the status by itself
     pub body_back : (s : Tree) → AtEachNode (IsFit bound) s → tree_of_body life_of (canonical_body names s) ≡ s

@@ -1,4 +1,5 @@
--- What holds of the status that a body means: its joint statuses have two members or more, and its canonical tree has no more
+-- What holds of the status that a body means: its joint statuses have two members or more, and its canonical tree has
+-- no more
 -- brackets in one another than the body.
 use Rattle.std.proofs.Common.{ℕ, suc, ◌≤◌, max, List, Option, Some, None, arith}
 use Rattle.halo_status.specs.Nodes.{AtEachNode, AtEachNodeIn}
@@ -66,13 +67,16 @@ module _ (names : List (List ℕ)) (f : List ℕ → ℕ) where
     nest-node (group body) = nest-grouped body
 
     -- a list of members
-    pub nest-canonical_members : (ms : Members) → nest_members (canonical_members names (trees_of_members f ms)) ≤ nest_members ms
+    pub nest-canonical_members : (ms : Members)
+        → nest_members (canonical_members names (trees_of_members f ms)) ≤ nest_members ms
     nest-canonical_members (one m) = nest-node m
     nest-canonical_members (and m ms) = nest-row (canonical_node names (tree_of_node f m)) (nest m) (nest-node m) ms
 
-    nest-row : (first : Node) (depth : ℕ) → nest first ≤ depth → (ms : Members) → nest_members (canonical_row names first (trees_of_members f ms)) ≤ max depth (nest_members ms)
+    nest-row : (first : Node) (depth : ℕ) → nest first ≤ depth → (ms : Members)
+        → nest_members (canonical_row names first (trees_of_members f ms)) ≤ max depth (nest_members ms)
     nest-row first depth h (one n) = omega (arith, h, nest-node n)
-    nest-row first depth h (and n ns) = omega (arith, h, nest-row (canonical_node names (tree_of_node f n)) (nest n) (nest-node n) ns)
+    nest-row first depth h (and n ns) =
+        omega (arith, h, nest-row (canonical_node names (tree_of_node f n)) (nest n) (nest-node n) ns)
 
     -- a list as a side of a reversion
     nest-side : (ms : Members) → nest_members (list_of (canonical_node names (tree_of_list f ms))) ≤ nest_members ms
@@ -82,15 +86,18 @@ module _ (names : List (List ℕ)) (f : List ℕ → ℕ) where
     -- a body in brackets
     nest-grouped : (body : Body) → nest (canonical_node names (tree_of_body f body)) ≤ suc (nest_body body)
     nest-grouped (list (one m)) = omega (arith, nest-node m)
-    nest-grouped (list (and m ms)) = omega (arith, nest-row (canonical_node names (tree_of_node f m)) (nest m) (nest-node m) ms)
+    nest-grouped (list (and m ms)) =
+        omega (arith, nest-row (canonical_node names (tree_of_node f m)) (nest m) (nest-node m) ms)
     nest-grouped (reversion ms ns) = omega (arith, nest-side ms, nest-side ns)
 
   pub nest-canonical_body : (body : Body) → nest_body (canonical_body names (tree_of_body f body)) ≤ nest_body body
-  nest-canonical_body (list (one m)) = omega (arith, nest-node m, nest-body_of (canonical_node names (tree_of_node f m)))
+  nest-canonical_body (list (one m)) =
+      omega (arith, nest-node m, nest-body_of (canonical_node names (tree_of_node f m)))
   nest-canonical_body (list (and m ms)) = nest-row (canonical_node names (tree_of_node f m)) (nest m) (nest-node m) ms
   nest-canonical_body (reversion ms ns) = omega (arith, nest-side ms, nest-side ns)
 
-  pub nest-canonical_content : (mark : Option Mark) (body : Body) → nest_body (canonical_body names (tree_of_content f mark body)) ≤ nest_body body
+  pub nest-canonical_content : (mark : Option Mark) (body : Body)
+      → nest_body (canonical_body names (tree_of_content f mark body)) ≤ nest_body body
   nest-canonical_content None body = nest-canonical_body body
   nest-canonical_content (Some mark) (list ms) = nest-canonical_members ms
   nest-canonical_content (Some mark) (reversion ms ns) = nest-canonical_body (reversion ms ns)

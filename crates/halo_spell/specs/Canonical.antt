@@ -1,5 +1,7 @@
--- The one way in which a status or a pay is written that is canonical, as a tree of the grammar of symbols: numbers without
--- leading zeros, names by their places, and round brackets only where a list or a reversion stands as a member.
+-- The one way in which a status or a pay is written that is canonical, as a tree of the grammar of
+-- symbols: numbers without
+-- leading zeros, names by their places, and round brackets only where a list or a reversion stands
+-- as a member.
 use Rattle.std.specs.Prelude.{ℕ, zero, suc, List, [], ◌∷◌, Bool, true, false, Option, Some, None, get_or, length}
 use Rattle.std.specs.Option.{option_and_then, option_map}
 use Rattle.std.specs.Fmt.{decimal}
@@ -35,11 +37,15 @@ abbrev mutual
   canonical_node names (status.term years) = term (decimal years)
   canonical_node names (status.joint ms) = group (list (canonical_members names ms))
   canonical_node names (status.last ms) = last (canonical_members names ms)
-  canonical_node names (status.at_least rank ms) = at_least (decimal rank) (canonical_members names ms)
-  canonical_node names (status.exactly rank ms) = exactly (decimal rank) (canonical_members names ms)
-  canonical_node names (status.after s t) = group (reversion (list_of (canonical_node names s)) (list_of (canonical_node names t)))
+  canonical_node names (status.at_least rank ms) =
+      at_least (decimal rank) (canonical_members names ms)
+  canonical_node names (status.exactly rank ms) =
+      exactly (decimal rank) (canonical_members names ms)
+  canonical_node names (status.after s t) =
+      group (reversion (list_of (canonical_node names s)) (list_of (canonical_node names t)))
 
-  -- the members of a status as a list; a status without members, of which there is none in memory, is written with one that has no name
+  -- the members of a status as a list; a status without members, of which there is none in memory,
+  -- is written with one that has no name
   pub canonical_members : List (List ℕ) → Trees → Members
   canonical_members names status.none = one (life [])
   canonical_members names (status.more s ms) = canonical_row names (canonical_node names s) ms
@@ -47,7 +53,8 @@ abbrev mutual
   -- a first member, and those behind it
   pub canonical_row : List (List ℕ) → Node → Trees → Members
   canonical_row names first status.none = one first
-  canonical_row names first (status.more s ms) = and first (canonical_row names (canonical_node names s) ms)
+  canonical_row names first (status.more s ms) =
+      and first (canonical_row names (canonical_node names s) ms)
 
 -- a status by itself
 abbrev pub canonical_body : List (List ℕ) → Tree → Body

@@ -1,4 +1,5 @@
--- The canonical text of a contract: its lines in the order of the forms, with one space between the words of a line, and a
+-- The canonical text of a contract: its lines in the order of the forms, with one space between the
+-- words of a line, and a
 -- line feed behind each line.
 use Rattle.std.specs.Prelude.{ℕ, List, [], ◌∷◌, ◌++◌, codes, flat_map, map}
 use Rattle.std.specs.List.{join_with_byte}
@@ -33,7 +34,8 @@ interest_lines (first ∷ later) =
 
 -- the line of a life
 abbrev pub life_line : TableFile → LifeLine → Line
-life_line tables declared = line.life declared.name (name_of tables declared.life.table) (decimal declared.life.age)
+life_line tables declared =
+    line.life declared.name (name_of tables declared.life.table) (decimal declared.life.age)
 
 -- the line of a rule for ties; `declared`, which holds where no line says another, is not written
 abbrev pub ties_lines : Ties → List Line

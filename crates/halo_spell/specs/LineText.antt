@@ -6,7 +6,8 @@ use Rattle.halo_syntax.specs.Line.{fraction_word}
 
 -- a fraction behind another one: its year and then the fraction, a space before each
 abbrev pub rate_text : Rate → List ℕ
-rate_text rate = codes " " ++ decimal rate.year ++ codes " " ++ fraction_word (decimal rate.p) (decimal rate.q)
+rate_text rate =
+    codes " " ++ decimal rate.year ++ codes " " ++ fraction_word (decimal rate.p) (decimal rate.q)
 
 -- some names, a space before each
 abbrev pub names_text : List (List ℕ) → List ℕ

@@ -59,7 +59,8 @@ argument_word argument.NoTable = codes "NoTable"
 -- the line that a refusal writes, without its line feed: the fault of a file is told with the
 -- number of the record or the line, from 1
 abbrev pub words_of : Refusal → List ℕ
-words_of refusal.Usage = codes "usage: halo value T C, check T C, compile T C, explain T C, columns T NAME P/Q, sample N"
+words_of refusal.Usage =
+    codes "usage: halo value T C, check T C, compile T C, explain T C, columns T NAME P/Q, sample N"
 words_of (refusal.Read f) = codes "read fault " ++ file_word f
 words_of (refusal.TooLong f) = codes "too long " ++ file_word f
 words_of (refusal.Table fault) =

@@ -14,7 +14,8 @@ use Rattle.halo_check.specs.declared.fault.ContractKind.TheVariants as kind
 -- the kind at a place of the order
 kind_at : ℕ → ContractKind
 kind_at place = get_or
-    (kind.Syntax ∷ kind.Magnitude ∷ kind.Zero ∷ kind.Years ∷ kind.Order ∷ kind.Twice ∷ kind.NoTable ∷ kind.NoAge ∷ kind.NoLife ∷ kind.NoCause ∷ kind.Rank
+    (kind.Syntax ∷ kind.Magnitude ∷ kind.Zero ∷ kind.Years ∷ kind.Order ∷ kind.Twice ∷ kind.NoTable ∷ kind.NoAge ∷
+    kind.NoLife ∷ kind.NoCause ∷ kind.Rank
     ∷ kind.NotLasting ∷ kind.Shared ∷ kind.NotAtStart ∷ kind.NotAlive ∷ kind.Missing ∷ [])
     place kind.Syntax
 
@@ -28,7 +29,8 @@ one_kind : (j k : ContractKind) → place_of_check j ≡ place_of_check k → j 
 one_kind j k e = sym (kind_at-place j) ∙ ap kind_at e ∙ kind_at-place k
 
 -- of the checks that a line does not pass one is the first
-pub first_is_one : (tables : TableFile) (d : Draft) (l : Line) (j k : ContractKind) → FailsFirst tables d l j → FailsFirst tables d l k → j ≡ k
+pub first_is_one : (tables : TableFile) (d : Draft) (l : Line) (j k : ContractKind) → FailsFirst tables d l j
+    → FailsFirst tables d l k → j ≡ k
 first_is_one tables d l j k first other = elim (cases_order (place_of_check j) (place_of_check k)) [
   | inl same ↦ one_kind j k same
   | inr (inl before) ↦ absurd (first.fails (other.passes_before j before))
@@ -52,10 +54,16 @@ module _ (tables : TableFile) (d : Draft) (l : Line) (passes : (k : ContractKind
 
   pub first_failed : PassesAll tables d l ⊎ ((k : ContractKind) × FailsFirst tables d l k)
   unfolding FailsAt
-  first_failed = elim (first_place FailsAt (λ place. Dec.and (Dec.not (passes (kind_at place))) (ℕ_discrete (place_of_check (kind_at place)) place)) 16) [
-    | inr none ↦ inl (λ k. stable (passes k) (λ fails. none (place_of_check k) (place_below k) (fails_at k fails)))
-    | inl (place, below, (fails, at), before) ↦ inr (
-      kind_at place,
-      record { fails = fails; passes_before = (λ j earlier. stable (passes j) (λ other. before (place_of_check j) (omega arith) (fails_at j other))) },
-    )
-  ]
+  first_failed =
+      elim (first_place FailsAt (λ place. Dec.and (Dec.not (passes (kind_at place)))
+      (ℕ_discrete (place_of_check (kind_at place)) place)) 16) [
+        | inr none ↦ inl (λ k. stable (passes k) (λ fails. none (place_of_check k) (place_below k) (fails_at k fails)))
+        | inl (place, below, (fails, at), before) ↦ inr (
+          kind_at place,
+          record {
+            fails = fails;
+            passes_before =
+                (λ j earlier. stable (passes j) (λ other. before (place_of_check j) (omega arith) (fails_at j other)));
+          },
+        )
+      ]

@@ -16,7 +16,8 @@ use Rattle.halo_check.specs.Parts.{AtEach, AtEachMember, AtEachNode, AtEachOfBod
 use Rattle.halo_check.proofs.laws.Deciding.{dec_all, dec_if_some, dec_three}
 
 -- a fact of each member and of each list of a body
-module _ (P : Node → Type 0) (Q : Members → Type 0) (member : (m : Node) → Dec (P m)) (members : (ms : Members) → Dec (Q ms)) where
+module _ (P : Node → Type 0) (Q : Members → Type 0) (member : (m : Node) → Dec (P m))
+    (members : (ms : Members) → Dec (Q ms)) where
   mutual
     dec_at_each : (m : Node) → Dec (AtEach P Q m)
     dec_at_each (life name) = member (life name)
@@ -32,7 +33,8 @@ module _ (P : Node → Type 0) (Q : Members → Type 0) (member : (m : Node) →
 
     pub dec_at_each_of_body : (body : Body) → Dec (AtEachOfBody P Q body)
     dec_at_each_of_body (list ms) = Dec.and (members ms) (dec_at_each_member ms)
-    dec_at_each_of_body (reversion ms ns) = dec_three (Dec.and (members ms) (dec_at_each_member ms)) (members ns) (dec_at_each_member ns)
+    dec_at_each_of_body (reversion ms ns) =
+        dec_three (Dec.and (members ms) (dec_at_each_member ms)) (members ns) (dec_at_each_member ns)
 
 -- a fact of each member of a body
 dec_at_each_node : (P : Node → Type 0) → ((m : Node) → Dec (P m)) → (body : Body) → Dec (AtEachNode P body)
@@ -60,11 +62,18 @@ dec_member_within _ = yes tt
 
 -- a body within its limits
 dec_body_within : (body : Body) → Dec (IsBodyWithin body)
-dec_body_within body = dec_at_each_of_body IsMemberWithin IsListWithin dec_member_within (λ ms. dec_le (member_count ms) 16) body
+dec_body_within body =
+    dec_at_each_of_body IsMemberWithin IsListWithin dec_member_within (λ ms. dec_le (member_count ms) 16) body
 
 -- a status within its limits
 pub dec_status_within : (body : Body) → Dec (IsStatusWithin body)
-dec_status_within body = map_dec (λ h. record { parts = h.0; few_nodes = h.1 }) (λ within. (within.parts, within.few_nodes)) (Dec.and (dec_body_within body) (dec_le (nodes (tree_of_body any_life body)) 64))
+dec_status_within body =
+    map_dec (λ h. record {
+      parts = h.0;
+      few_nodes =
+          h.1;
+    }) (λ within. (within.parts, within.few_nodes))
+    (Dec.and (dec_body_within body) (dec_le (nodes (tree_of_body any_life body)) 64))
 
 -- the number of a head within its limit
 dec_vary_within : (vary : Vary) → Dec (IsVaryWithin vary)
@@ -78,13 +87,21 @@ dec_symbol_within s = map_dec
     (λ within. ((within.defer, within.vary, within.causes), (within.parts, within.few_nodes, within.mark)))
     (Dec.and
     (dec_three (dec_if_some (IsUpTo 200) (dec_up_to 200) s.defer) (dec_vary_within s.vary)
-    (dec_if_some AreNamesWithin (λ names. Dec.and (dec_short_name names.first) (dec_all IsShortName dec_short_name names.others)) s.causes))
+    (dec_if_some AreNamesWithin (λ names. Dec.and (dec_short_name names.first)
+    (dec_all IsShortName dec_short_name names.others)) s.causes))
     (dec_three (dec_body_within s.body) (dec_le (nodes (tree_of_symbol any_life s)) 64)
     (dec_if_some (λ (mark : Mark). IsUpTo 64 mark.rank) (λ mark. dec_up_to 64 mark.rank) s.mark)))
 
 -- a fraction within its limits
 pub dec_rate_within : (rate : LaterRate) → Dec (IsRateWithin rate)
-dec_rate_within rate = map_dec (λ h. record { year = h.0; p = h.1; q = h.2 }) (λ within. (within.year, within.p, within.q)) (dec_three (dec_up_to 199 rate.year) (dec_up_to (10 ^ 9) rate.p) (dec_up_to (10 ^ 9) rate.q))
+dec_rate_within rate =
+    map_dec (λ h. record {
+      year = h.0;
+      p = h.1;
+      q =
+          h.2;
+    }) (λ within. (within.year, within.p, within.q))
+    (dec_three (dec_up_to 199 rate.year) (dec_up_to (10 ^ 9) rate.p) (dec_up_to (10 ^ 9) rate.q))
 
 -- a member that is no term of 0 years
 dec_has_years : (m : Node) → Dec (HasYears m)

@@ -59,10 +59,16 @@ abbrev IsApart : (ℕ → Bool) → (ℕ → Bool) → Type 0
 IsApart first test = (i : ℕ) → IsTrue (first i) → IsTrue (test i) → ⊥
 
 -- none passes one of two tests and a third
-dec_apart_either : (first second test : ℕ → Bool) → Dec (IsApart first test) → Dec (IsApart second test) → Dec (IsApart (λ i. first i || second i) test)
+dec_apart_either : (first second test : ℕ → Bool) → Dec (IsApart first test) → Dec (IsApart second test)
+    → Dec (IsApart (λ i. first i || second i) test)
 dec_apart_either first second test a b = map_dec
-    (λ both i passes. elim (or_cases (first i) (second i) passes) [ inl here ↦ both.0 i here | inr there ↦ both.1 i there ])
-    (λ apart. (λ i here. apart i (or_left (first i) (second i) here), λ i there. apart i (or_right (first i) (second i) there)))
+    (λ both i passes. elim (or_cases (first i) (second i) passes)
+    [ inl here ↦ both.0 i here | inr there ↦ both.1 i there ])
+    (λ apart. (
+      λ i here. apart i (or_left (first i) (second i) here),
+      λ i there. apart i
+          (or_right (first i) (second i) there),
+    ))
     (Dec.and a b)
 
 -- none that passes the test is this number
@@ -82,11 +88,13 @@ module _ (test : ℕ → Bool) where
     dec_no_life (last ms) = dec_no_life_in ms
     dec_no_life (at_least r ms) = dec_no_life_in ms
     dec_no_life (exactly r ms) = dec_no_life_in ms
-    dec_no_life (after s t) = dec_apart_either (λ i. names_life i s) (λ i. names_life i t) test (dec_no_life s) (dec_no_life t)
+    dec_no_life (after s t) =
+        dec_apart_either (λ i. names_life i s) (λ i. names_life i t) test (dec_no_life s) (dec_no_life t)
 
     dec_no_life_in : (ms : Trees) → Dec (IsApart (λ i. any_names_life i ms) test)
     dec_no_life_in none = yes (λ i named. cc)
-    dec_no_life_in (more s ms) = dec_apart_either (λ i. names_life i s) (λ i. any_names_life i ms) test (dec_no_life s) (dec_no_life_in ms)
+    dec_no_life_in (more s ms) =
+        dec_apart_either (λ i. names_life i s) (λ i. any_names_life i ms) test (dec_no_life s) (dec_no_life_in ms)
 
   mutual
     dec_no_term : (s : Tree) → Dec (IsApart (λ n. names_term n s) test)
@@ -96,11 +104,13 @@ module _ (test : ℕ → Bool) where
     dec_no_term (last ms) = dec_no_term_in ms
     dec_no_term (at_least r ms) = dec_no_term_in ms
     dec_no_term (exactly r ms) = dec_no_term_in ms
-    dec_no_term (after s t) = dec_apart_either (λ n. names_term n s) (λ n. names_term n t) test (dec_no_term s) (dec_no_term t)
+    dec_no_term (after s t) =
+        dec_apart_either (λ n. names_term n s) (λ n. names_term n t) test (dec_no_term s) (dec_no_term t)
 
     dec_no_term_in : (ms : Trees) → Dec (IsApart (λ n. any_names_term n ms) test)
     dec_no_term_in none = yes (λ n named. cc)
-    dec_no_term_in (more s ms) = dec_apart_either (λ n. names_term n s) (λ n. any_names_term n ms) test (dec_no_term s) (dec_no_term_in ms)
+    dec_no_term_in (more s ms) =
+        dec_apart_either (λ n. names_term n s) (λ n. any_names_term n ms) test (dec_no_term s) (dec_no_term_in ms)
 
 -- two statuses share nothing
 dec_shares_nothing : (s t : Tree) → Dec (SharesNothing s t)
@@ -111,12 +121,15 @@ dec_shares_nothing s t = map_dec (λ h. record { lives = h.0; terms = h.1 }) (λ
 dec_apart_at : (first second : Option Tree) → Dec ((s t : Tree) → first ≡ Some s → second ≡ Some t → SharesNothing s t)
 dec_apart_at None second = yes (λ s t at_s at_t. absurd cc)
 dec_apart_at (Some s) None = yes (λ u v at_u at_v. absurd cc)
-dec_apart_at (Some s) (Some t) = map_dec (λ apart u v at_u at_v. let same : s ≡ u = cc in let also : t ≡ v = cc in rw (same, also) at apart) (λ each. each s t refl refl) (dec_shares_nothing s t)
+dec_apart_at (Some s) (Some t) =
+    map_dec (λ apart u v at_u at_v. let same : s ≡ u = cc in let also : t ≡ v = cc in rw (same, also) at apart)
+    (λ each. each s t refl refl) (dec_shares_nothing s t)
 
 -- no two members share anything
 pub dec_apart : (ms : Trees) → Dec (AreApart ms)
 dec_apart ms = map_dec (λ each. apart_at_each ms each) (λ apart later within. apart_before ms apart later)
-    (dec_each (IsApartAt ms) (λ later. dec_each (λ earlier. AreApartAt ms earlier later) (λ earlier. dec_apart_at (member_at ms earlier) (member_at ms later)) later) (member_count ms))
+    (dec_each (IsApartAt ms) (λ later. dec_each (λ earlier. AreApartAt ms earlier later)
+    (λ earlier. dec_apart_at (member_at ms earlier) (member_at ms later)) later) (member_count ms))
 
 -- a fact of the members of a joint status
 pub dec_of_members : (P : Trees → Type 0) → ((ms : Trees) → Dec (P ms)) → (s : Tree) → Dec (OfMembers P s)

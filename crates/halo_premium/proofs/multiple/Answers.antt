@@ -43,6 +43,7 @@ returns-clause-within c = record {
 
 pub returns-clause-narrow : goal.returns-clause-narrow
 returns-clause-narrow c w narrow =
-    let sized : IsSized (pos c.args.amount) c.args.amount = record { low = omega (arith, ints); high = omega (arith, ints) } in
+    let sized : IsSized (pos c.args.amount) c.args.amount =
+    record { low = omega (arith, ints); high = omega (arith, ints) } in
     c.scale.ensures.narrow w c.args.amount narrow
     (rw (signed-count c.args.amount (omega (arith, c.requires.amount_in))) sized)

@@ -30,22 +30,29 @@ words_of-blank b text blank = ap (filter is_some) (slice_split-cons_yes is_blank
 words_of-blanks : (blanks text : List ℕ) → All IsBlank blanks → words_of (blanks ++ text) ≡ words_of text
 words_of-blanks [] text all = refl
 words_of-blanks (b ∷ blanks) text all =
-    words_of-blank b (blanks ++ text) (All-head IsBlank b blanks all) ∙ words_of-blanks blanks text (All-tail IsBlank b blanks all)
+    words_of-blank b (blanks ++ text) (All-head IsBlank b blanks all)
+    ∙ words_of-blanks blanks text (All-tail IsBlank b blanks all)
 
 -- a piece of at least one byte is kept
-kept : (piece : List ℕ) (pieces : List (List ℕ)) → 0 < length piece → filter is_some (piece ∷ pieces) ≡ piece ∷ filter is_some pieces
+kept : (piece : List ℕ) (pieces : List (List ℕ)) → 0 < length piece
+    → filter is_some (piece ∷ pieces) ≡ piece ∷ filter is_some pieces
 kept [] pieces some = absurd (omega arith)
 kept (b ∷ piece) pieces some = refl
 
 -- a word ends where a blank or nothing follows
-words_of-word : (word rest : List ℕ) → 0 < length word → All IsInWord word → BeginsWithout IsInWord rest → words_of (word ++ rest) ≡ word ∷ words_of rest
+words_of-word : (word rest : List ℕ) → 0 < length word → All IsInWord word → BeginsWithout IsInWord rest
+    → words_of (word ++ rest) ≡ word ∷ words_of rest
 words_of-word word [] some all ends =
     ap words_of (append-nil word)
-    ∙ ap (filter is_some) (slice_split_none is_blank word (All-weaker IsInWord (λ b. is_blank b ≡ false) (λ b h. not-true (is_blank b) h) word all))
+    ∙ ap (filter is_some) (slice_split_none is_blank word
+    (All-weaker IsInWord (λ b. is_blank b ≡ false) (λ b h. not-true (is_blank b) h) word all))
     ∙ kept word [] some
 words_of-word word (b ∷ rest) some all ends =
-    let blank : IsBlank b = elim (cases_Bool (is_blank b)) [ inl yes' ↦ yes' | inr no' ↦ absurd (ends (not_from_false (is_blank b) no')) ] in
-    ap (filter is_some) (slice_split_at is_blank word b rest (All-weaker IsInWord (λ b. is_blank b ≡ false) (λ b h. not-true (is_blank b) h) word all) blank)
+    let blank : IsBlank b =
+    elim (cases_Bool (is_blank b)) [ inl yes' ↦ yes' | inr no' ↦ absurd (ends (not_from_false (is_blank b) no')) ]
+    in
+    ap (filter is_some) (slice_split_at is_blank word b rest
+    (All-weaker IsInWord (λ b. is_blank b ≡ false) (λ b h. not-true (is_blank b) h) word all) blank)
     ∙ kept word (slice_split is_blank rest) some
     ∙ ap (λ words. word ∷ words) (sym (words_of-blank b rest blank))
 
@@ -57,20 +64,25 @@ text_at line span = slice_range line span.from span.to
 cut_at : (line : List ℕ) (from to : ℕ) → from ≤ to → drop from line ≡ slice_range line from to ++ drop to line
 cut_at line from to forth =
     sym (take-append-drop (to - from) (drop from line))
-    ∙ ap (λ rest. take (to - from) (drop from line) ++ rest) (drop-drop (to - from) from line ∙ ap (λ n. drop n line) (omega arith))
+    ∙ ap (λ rest. take (to - from) (drop from line) ++ rest)
+    (drop-drop (to - from) from line ∙ ap (λ n. drop n line) (omega arith))
 
 -- the parts of a line at its words are its words
-pub words_at : (line : List ℕ) (place : ℕ) (spans : List Span) → AreWordsFrom line place spans → map (text_at line) spans ≡ words_of (drop place line)
+pub words_at : (line : List ℕ) (place : ℕ) (spans : List Span) → AreWordsFrom line place spans
+    → map (text_at line) spans ≡ words_of (drop place line)
 words_at line place [] are =
-    let all : All IsBlank (drop place line) = λ k d lt. rw get_or-drop (are (place + k) d (omega arith) (omega (arith, length-drop place line))) in
+    let all : All IsBlank (drop place line) =
+    λ k d lt. rw get_or-drop (are (place + k) d (omega arith) (omega (arith, length-drop place line))) in
     sym (words_of-blanks (drop place line) [] all) ∙ ap words_of (append-nil (drop place line))
 words_at line place (span ∷ spans) are =
     let next = are.0 in
     let blanks = run_all is_blank line place span.from next.blanks in
     let bytes = run_all (λ b. not (is_blank b)) line span.from span.to next.bytes in
     let ends = run_stops (λ b. not (is_blank b)) line span.from span.to next.bytes in
-    let some : 0 < length (text_at line span) = omega (arith, next.some, length-between line span.from span.to next.bytes.within) in
-    sym (ap words_of (cut_at line place span.from next.blanks.forth ∙ ap (λ rest. slice_range line place span.from ++ rest) (cut_at line span.from span.to next.bytes.forth))
+    let some : 0 < length (text_at line span) =
+    omega (arith, next.some, length-between line span.from span.to next.bytes.within) in
+    sym (ap words_of (cut_at line place span.from next.blanks.forth
+    ∙ ap (λ rest. slice_range line place span.from ++ rest) (cut_at line span.from span.to next.bytes.forth))
     ∙ words_of-blanks (slice_range line place span.from) (text_at line span ++ drop span.to line) blanks
     ∙ words_of-word (text_at line span) (drop span.to line) some bytes ends
     ∙ ap (λ words. text_at line span ∷ words) (sym (words_at line span.to spans are.1)))
@@ -133,7 +145,9 @@ first_word (b ∷ text) word words e = elim (cases_Bool (is_blank b)) [
       }
   | inr other ↦
       let cut = cut_first text in
-      let read = sym (ap (filter is_some) (slice_split-cons_no is_blank b text other ∙ ap (onto_first b) cut.2.pieces_are)) ∙ e in
+      let read =
+      sym (ap (filter is_some) (slice_split-cons_no is_blank b text other ∙ ap (onto_first b) cut.2.pieces_are))
+      ∙ e in
       record {
         before = [];
         after = cut.1;

@@ -25,7 +25,8 @@ without_return-none (byte ∷ next ∷ rest) none =
     ap (λ l. byte ∷ l) (without_return-none (next ∷ rest) (λ front e. none (byte ∷ front) (ap (λ l. byte ∷ l) e)))
 
 -- only the last piece can be the empty one that is dropped
-without_empty_end-more : (piece : List ℕ) (pieces : List (List ℕ)) → 0 < length pieces → without_empty_end (piece ∷ pieces) ≡ piece ∷ without_empty_end pieces
+without_empty_end-more : (piece : List ℕ) (pieces : List (List ℕ)) → 0 < length pieces
+    → without_empty_end (piece ∷ pieces) ≡ piece ∷ without_empty_end pieces
 without_empty_end-more piece [] some = absurd (omega arith)
 without_empty_end-more [] (next ∷ pieces) some = refl
 without_empty_end-more (byte ∷ piece) (next ∷ pieces) some = refl
@@ -45,7 +46,8 @@ lines_left-first bytes within =
     ∙ ap (map without_return) (without_empty_end-more (before_first is_line_feed bytes) behind some)
 
 -- some bytes without line feed are one line
-lines_left-one : (bytes : List ℕ) → 0 < length bytes → length bytes ≤ position_or_len is_line_feed bytes → lines_left bytes ≡ without_return bytes ∷ []
+lines_left-one : (bytes : List ℕ) → 0 < length bytes → length bytes ≤ position_or_len is_line_feed bytes
+    → lines_left bytes ≡ without_return bytes ∷ []
 lines_left-one bytes some none =
     ap (λ pieces. map without_return (without_empty_end pieces))
     (slice_split_none is_line_feed bytes (λ k d lt. fails_before_first is_line_feed bytes k d (omega arith)))
@@ -55,8 +57,11 @@ lines_left-one bytes some none =
 pub lines_left-next : (bytes : List ℕ) (end : ℕ) → 0 < length bytes → end ≡ position_or_len is_line_feed bytes
     → lines_left bytes ≡ without_return (take end bytes) ∷ lines_left (drop (end + 1) bytes)
 lines_left-next bytes end some is = elim (cases_lt (position_or_len is_line_feed bytes) (length bytes)) [
-  | inl within ↦ subst (λ n. lines_left bytes ≡ without_return (take n bytes) ∷ lines_left (drop (n + 1) bytes)) (sym is) (lines_left-first bytes within)
+  | inl within ↦
+      subst (λ n. lines_left bytes ≡ without_return (take n bytes) ∷ lines_left (drop (n + 1) bytes)) (sym is)
+      (lines_left-first bytes within)
   | inr none ↦
       lines_left-one bytes some none
-      ∙ ap₂ (λ line left. without_return line ∷ lines_left left) (sym (take_all end bytes (omega arith))) (sym (drop_all (end + 1) bytes (omega arith)))
+      ∙ ap₂ (λ line left. without_return line ∷ lines_left left) (sym (take_all end bytes (omega arith)))
+      (sym (drop_all (end + 1) bytes (omega arith)))
 ]

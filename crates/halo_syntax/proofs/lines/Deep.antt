@@ -38,7 +38,9 @@ record IsNoBracket (b : ℕ) : Type 0 where
 
 -- a first byte that is another one
 count_of-other : (byte first : ℕ) (rest : List ℕ) → first ≢ byte → count_of byte (first ∷ rest) ≡ count_of byte rest
-count_of-other byte first rest differs = ap (λ t. length (cond t (first ∷ filter (λ b. b == byte) rest) (filter (λ b. b == byte) rest))) (ne_eqb first byte differs)
+count_of-other byte first rest differs =
+    ap (λ t. length (cond t (first ∷ filter (λ b. b == byte) rest) (filter (λ b. b == byte) rest)))
+    (ne_eqb first byte differs)
 
 -- the room before a byte that is no bracket is there behind it
 pass_byte : (room b : ℕ) (rest : List ℕ) → IsNoBracket b → HasRoom room (b ∷ rest) → HasRoom room rest
@@ -54,7 +56,8 @@ pass_byte room b rest no_bracket has = record {
 pass : (room : ℕ) (bytes rest : List ℕ) → All IsNoBracket bytes → HasRoom room (bytes ++ rest) → HasRoom room rest
 pass room [] rest all has = has
 pass room (b ∷ bytes) rest all has =
-    pass room bytes rest (All-tail IsNoBracket b bytes all) (pass_byte room b (bytes ++ rest) (All-head IsNoBracket b bytes all) has)
+    pass room bytes rest (All-tail IsNoBracket b bytes all)
+    (pass_byte room b (bytes ++ rest) (All-head IsNoBracket b bytes all) has)
 
 -- an opened bracket takes one of the room
 open_one : (room : ℕ) (rest : List ℕ) → HasRoom room (round_open ∷ rest) → (0 < room) × HasRoom (room - 1) rest
@@ -77,12 +80,19 @@ name_is_none : (name : List ℕ) → IsLongName name → All IsNoBracket name
 name_is_none [] is = absurd is
 name_is_none (first ∷ rest) is =
     All-cons IsNoBracket first rest
-    (record { not_open = λ e. let same = ap is_ascii_alphabetic e in cc (is.0); not_close = λ e. let same = ap is_ascii_alphabetic e in cc (is.0) })
+    (record {
+      not_open = λ e. let same = ap is_ascii_alphabetic e in cc (is.0);
+      not_close = λ e. let same = ap is_ascii_alphabetic e in cc (is.0);
+    })
     (All-weaker (λ b. is_name_byte b ≡ true) IsNoBracket name_byte_is_none rest is.1)
 
 -- nor has a number
 number_is_none : (digits : List ℕ) → IsNumber digits → All IsNoBracket digits
-number_is_none digits is = All-weaker IsDigit IsNoBracket (λ b digit. record { not_open = λ e. omega (arith, digit.0, digit.1); not_close = λ e. omega (arith, digit.0, digit.1) }) digits is.1
+number_is_none digits is =
+    All-weaker IsDigit IsNoBracket (λ b digit. record {
+      not_open = λ e. omega (arith, digit.0, digit.1);
+      not_close = λ e. omega (arith, digit.0, digit.1);
+    }) digits is.1
 
 -- the test for a byte that is no round bracket
 abbrev is_no_bracket : ℕ → Bool
@@ -90,17 +100,24 @@ is_no_bracket b = not (b == round_open) && not (b == round_close)
 
 -- nor have bytes that pass the test, as those of a text that is written out
 text_is_none : (bytes : List ℕ) → list_all is_no_bracket bytes ≡ true → All IsNoBracket bytes
-text_is_none bytes passes = All-weaker (λ b. is_no_bracket b ≡ true) IsNoBracket one bytes (AllPass-from_list_all is_no_bracket bytes passes)
+text_is_none bytes passes =
+    All-weaker (λ b. is_no_bracket b ≡ true) IsNoBracket one bytes (AllPass-from_list_all is_no_bracket bytes passes)
   where
     one : (b : ℕ) → is_no_bracket b ≡ true → IsNoBracket b
-    one b is = record { not_open = λ e. let same = ap is_no_bracket e in cc (is); not_close = λ e. let same = ap is_no_bracket e in cc (is) }
+    one b is =
+        record {
+          not_open = λ e. let same = ap is_no_bracket e in cc (is);
+          not_close = λ e. let same = ap is_no_bracket e in cc (is);
+        }
 
 -- bytes that are written out, behind which the room is the same
-skip : (room : ℕ) (bytes rest : List ℕ) → list_all is_no_bracket bytes ≡ true → HasRoom room (bytes ++ rest) → HasRoom room rest
+skip : (room : ℕ) (bytes rest : List ℕ) → list_all is_no_bracket bytes ≡ true → HasRoom room (bytes ++ rest)
+    → HasRoom room rest
 skip room bytes rest passes has = pass room bytes rest (text_is_none bytes passes) has
 
 -- something in brackets
-bracketed : (room nests : ℕ) (bytes rest : List ℕ) → (HasRoom (room - 1) bytes → (nests ≤ room - 1) × HasRoom (room - 1) (round_close ∷ rest))
+bracketed : (room nests : ℕ) (bytes rest : List ℕ)
+    → (HasRoom (room - 1) bytes → (nests ≤ room - 1) × HasRoom (room - 1) (round_close ∷ rest))
     → HasRoom room (round_open ∷ bytes) → (suc nests ≤ room) × HasRoom room rest
 bracketed room nests bytes rest inside has =
     let opened = open_one room bytes has in
@@ -110,24 +127,35 @@ bracketed room nests bytes rest inside has =
 
 mutual
   -- brackets nest no deeper in a member than there is room, and the room behind it is the same
-  node_within : (n : Node) (room : ℕ) (rest : List ℕ) → IsProper n → HasRoom room (node_bytes n rest) → (nest n ≤ room) × HasRoom room rest
-  node_within (tree.life name) room rest proper has = (omega arith, pass room name rest (name_is_none name proper.0) has)
-  node_within (term years) room rest proper has =
-      (omega arith, skip room (angle_close ∷ []) rest refl (pass room years (angle_close ∷ rest) (number_is_none years proper) (skip room (angle_open ∷ []) _ refl has)))
+  node_within : (n : Node) (room : ℕ) (rest : List ℕ) → IsProper n → HasRoom room (node_bytes n rest)
+      → (nest n ≤ room) × HasRoom room rest
+  node_within (tree.life name) room rest proper has =
+      (omega arith, pass room name rest (name_is_none name proper.0) has)
+  node_within (term years) room rest proper has = (
+    omega arith,
+    skip room (angle_close ∷ []) rest refl
+        (pass room years (angle_close ∷ rest) (number_is_none years proper) (skip room (angle_open ∷ []) _ refl has)),
+  )
   node_within (last ms) room rest proper has =
-      bracketed room (nest_members ms) (members_bytes ms (round_close ∷ rest)) rest (λ inside. members_within ms (room - 1) (round_close ∷ rest) proper inside)
+      bracketed room (nest_members ms) (members_bytes ms (round_close ∷ rest)) rest
+      (λ inside. members_within ms (room - 1) (round_close ∷ rest) proper inside)
       (skip room bar_text _ refl has)
   node_within (at_least rank ms) room rest proper has =
-      bracketed room (nest_members ms) (members_bytes ms (round_close ∷ rest)) rest (λ inside. members_within ms (room - 1) (round_close ∷ rest) proper.1 inside)
+      bracketed room (nest_members ms) (members_bytes ms (round_close ∷ rest)) rest
+      (λ inside. members_within ms (room - 1) (round_close ∷ rest) proper.1 inside)
       (skip room (slash ∷ []) _ refl (pass room rank _ (number_is_none rank proper.0) has))
   node_within (exactly rank ms) room rest proper has =
-      bracketed room (nest_members ms) (members_bytes ms (round_close ∷ rest)) rest (λ inside. members_within ms (room - 1) (round_close ∷ rest) proper.1 inside)
-      (skip room (square_close ∷ slash ∷ []) _ refl (pass room rank _ (number_is_none rank proper.0) (skip room (square_open ∷ []) _ refl has)))
+      bracketed room (nest_members ms) (members_bytes ms (round_close ∷ rest)) rest
+      (λ inside. members_within ms (room - 1) (round_close ∷ rest) proper.1 inside)
+      (skip room (square_close ∷ slash ∷ []) _ refl
+      (pass room rank _ (number_is_none rank proper.0) (skip room (square_open ∷ []) _ refl has)))
   node_within (group body) room rest proper has =
-      bracketed room (nest_body body) (body_bytes body (round_close ∷ rest)) rest (λ inside. body_within body (room - 1) (round_close ∷ rest) proper inside) has
+      bracketed room (nest_body body) (body_bytes body (round_close ∷ rest)) rest
+      (λ inside. body_within body (room - 1) (round_close ∷ rest) proper inside) has
 
   -- the same of a list
-  members_within : (ms : Members) (room : ℕ) (rest : List ℕ) → AreProper ms → HasRoom room (members_bytes ms rest) → (nest_members ms ≤ room) × HasRoom room rest
+  members_within : (ms : Members) (room : ℕ) (rest : List ℕ) → AreProper ms → HasRoom room (members_bytes ms rest)
+      → (nest_members ms ≤ room) × HasRoom room rest
   members_within (one m) room rest proper has = node_within m room rest proper has
   members_within (and m ms) room rest proper has =
       let first = node_within m room (colon ∷ members_bytes ms rest) proper.0 has in
@@ -135,7 +163,8 @@ mutual
       (omega (arith, first.0, others.0), others.1)
 
   -- the same of a body
-  body_within : (body : Body) (room : ℕ) (rest : List ℕ) → IsProperBody body → HasRoom room (body_bytes body rest) → (nest_body body ≤ room) × HasRoom room rest
+  body_within : (body : Body) (room : ℕ) (rest : List ℕ) → IsProperBody body → HasRoom room (body_bytes body rest)
+      → (nest_body body ≤ room) × HasRoom room rest
   body_within (list ms) room rest proper has = members_within ms room rest proper has
   body_within (reversion ms ns) room rest proper has =
       let first = members_within ms room (stroke ∷ members_bytes ns rest) proper.0 has in
@@ -143,11 +172,14 @@ mutual
       (omega (arith, first.0, second.0), second.1)
 
 -- the same of a list with a mark
-marked_within : (place : ℕ) (rank : List ℕ) (ms : Members) (room : ℕ) (rest : List ℕ) → IsNumber rank → AreProper ms → HasRoom room (marked_bytes place rank ms rest) → nest_members ms ≤ room
+marked_within : (place : ℕ) (rank : List ℕ) (ms : Members) (room : ℕ) (rest : List ℕ) → IsNumber rank → AreProper ms
+    → HasRoom room (marked_bytes place rank ms rest) → nest_members ms ≤ room
 marked_within zero rank (one m) room rest number proper has = (node_within m room (caret ∷ (rank ++ rest)) proper has).0
 marked_within zero rank (and m ms) room rest number proper has =
     let first = node_within m room (caret ∷ (rank ++ (colon ∷ members_bytes ms rest))) proper.0 has in
-    let behind = skip room (colon ∷ []) _ refl (pass room rank _ (number_is_none rank number) (skip room (caret ∷ []) _ refl first.1)) in
+    let behind =
+    skip room (colon ∷ []) _ refl (pass room rank _ (number_is_none rank number)
+    (skip room (caret ∷ []) _ refl first.1)) in
     let others = members_within ms room rest proper.1 behind in
     omega (arith, first.0, others.0)
 marked_within (suc place) rank (one m) room rest number proper has = (node_within m room rest proper has).0
@@ -157,10 +189,13 @@ marked_within (suc place) rank (and m ms) room rest number proper has =
     omega (arith, first.0, others)
 
 -- the same of a body with the mark that it may have
-content_within : (mark : Option Mark) (body : Body) (room : ℕ) (rest : List ℕ) → IfSome mark (λ m. IsNumber m.rank) → IsProperBody body → HasRoom room (content_bytes mark body rest) → nest_body body ≤ room
+content_within : (mark : Option Mark) (body : Body) (room : ℕ) (rest : List ℕ) → IfSome mark (λ m. IsNumber m.rank)
+    → IsProperBody body → HasRoom room (content_bytes mark body rest) → nest_body body ≤ room
 content_within None body room rest number proper has = (body_within body room rest proper has).0
-content_within (Some mark) (list ms) room rest number proper has = marked_within mark.member mark.rank ms room rest number proper has
-content_within (Some mark) (reversion ms ns) room rest number proper has = (body_within (reversion ms ns) room rest proper has).0
+content_within (Some mark) (list ms) room rest number proper has =
+    marked_within mark.member mark.rank ms room rest number proper has
+content_within (Some mark) (reversion ms ns) room rest number proper has =
+    (body_within (reversion ms ns) room rest proper has).0
 
 -- the letters of a kind are no brackets
 kind_is_none : (kind : Kind) → All IsNoBracket (kind_text kind)
@@ -171,32 +206,39 @@ kind_is_none Due = text_is_none (kind_text Due) refl
 -- nor are those of a head
 head_is_none : (vary : Vary) (kind : Kind) → IsProperVary vary → All IsNoBracket (head_text vary kind)
 head_is_none level kind proper = kind_is_none kind
-head_is_none increasing kind proper = All-append IsNoBracket (letter_I ∷ []) (kind_text kind) (text_is_none (letter_I ∷ []) refl) (kind_is_none kind)
+head_is_none increasing kind proper =
+    All-append IsNoBracket (letter_I ∷ []) (kind_text kind) (text_is_none (letter_I ∷ []) refl) (kind_is_none kind)
 head_is_none (decreasing count) kind proper =
     All-append IsNoBracket (letter_D ∷ []) (count ++ kind_text kind) (text_is_none (letter_D ∷ []) refl)
     (All-append IsNoBracket count (kind_text kind) (number_is_none count proper) (kind_is_none kind))
 
 -- the room behind a deferral is the same
-pass_defer : (defer : Option (List ℕ)) (room : ℕ) (rest : List ℕ) → IfSome defer IsNumber → HasRoom room (defer_bytes defer rest) → HasRoom room rest
+pass_defer : (defer : Option (List ℕ)) (room : ℕ) (rest : List ℕ) → IfSome defer IsNumber
+    → HasRoom room (defer_bytes defer rest) → HasRoom room rest
 pass_defer None room rest number has = has
-pass_defer (Some years) room rest number has = skip room (stroke ∷ []) rest refl (pass room years _ (number_is_none years number) has)
+pass_defer (Some years) room rest number has =
+    skip room (stroke ∷ []) rest refl (pass room years _ (number_is_none years number) has)
 
 -- and behind the names of a set
-pass_names : (names : List (List ℕ)) (room : ℕ) (rest : List ℕ) → All IsPlainName names → HasRoom room (other_names_bytes names rest) → HasRoom room rest
+pass_names : (names : List (List ℕ)) (room : ℕ) (rest : List ℕ) → All IsPlainName names
+    → HasRoom room (other_names_bytes names rest) → HasRoom room rest
 pass_names [] room rest all has = has
 pass_names (name ∷ names) room rest all has =
     pass_names names room rest (All-tail IsPlainName name names all)
     (pass room name _ (name_is_none name (All-head IsPlainName name names all).0) (skip room (comma ∷ []) _ refl has))
 
 -- and behind the causes
-pass_causes : (causes : Option Names) (room : ℕ) (rest : List ℕ) → IfSome causes AreProperNames → HasRoom room (causes_bytes causes rest) → HasRoom room rest
+pass_causes : (causes : Option Names) (room : ℕ) (rest : List ℕ) → IfSome causes AreProperNames
+    → HasRoom room (causes_bytes causes rest) → HasRoom room rest
 pass_causes None room rest proper has = has
 pass_causes (Some names) room rest proper has =
     skip room (brace_close ∷ []) rest refl
-    (pass_names names.others room (brace_close ∷ rest) proper.1 (pass room names.first _ (name_is_none names.first proper.0.0) (skip room (brace_open ∷ []) _ refl has)))
+    (pass_names names.others room (brace_close ∷ rest) proper.1
+    (pass room names.first _ (name_is_none names.first proper.0.0) (skip room (brace_open ∷ []) _ refl has)))
 
 -- brackets nest no deeper in a symbol than there is room
-symbol_within : (s : Symbol) (room : ℕ) (rest : List ℕ) → IsProperSymbol s → HasRoom room (symbol_bytes s rest) → nest_body s.body ≤ room
+symbol_within : (s : Symbol) (room : ℕ) (rest : List ℕ) → IsProperSymbol s → HasRoom room (symbol_bytes s rest)
+    → nest_body s.body ≤ room
 symbol_within s room rest proper has =
     let head = pass_defer s.defer room _ proper.defer has in
     let causes = pass room (head_text s.vary s.kind) _ (head_is_none s.vary s.kind proper.allowed.vary) head in
@@ -205,26 +247,37 @@ symbol_within s room rest proper has =
 
 -- a blank is no bracket
 blank_is_none : (b : ℕ) → IsBlank b → IsNoBracket b
-blank_is_none b is = record { not_open = λ e. let same = ap is_blank e in cc (is); not_close = λ e. let same = ap is_blank e in cc (is) }
+blank_is_none b is =
+    record { not_open = λ e. let same = ap is_blank e in cc (is); not_close = λ e. let same = ap is_blank e in cc (is) }
 
 -- what there is room for before some bytes
 front : (room : ℕ) (bytes rest : List ℕ) → HasRoom room (bytes ++ rest) → HasRoom room bytes
-front room bytes rest has = record { most = λ n within. subst (λ bs. count_of round_open bs ≤ count_of round_close bs + room) (take-append-le n bytes rest within) (has.most n (omega (arith, length-append bytes rest))) }
+front room bytes rest has =
+    record {
+      most = λ n within. subst (λ bs. count_of round_open bs ≤ count_of round_close bs + room)
+          (take-append-le n bytes rest within) (has.most n (omega (arith, length-append bytes rest)));
+    }
 
 -- the room of a text is there in its first word and what follows it
-at_word : (room : ℕ) (text word : List ℕ) (words : List (List ℕ)) (begins : Begins text word words) → HasRoom room text → HasRoom room (word ++ begins.after)
+at_word : (room : ℕ) (text word : List ℕ) (words : List (List ℕ)) (begins : Begins text word words) → HasRoom room text
+    → HasRoom room (word ++ begins.after)
 at_word room text word words begins has =
-    pass room begins.before (word ++ begins.after) (All-weaker IsBlank IsNoBracket blank_is_none begins.before begins.blanks) (subst (HasRoom room) begins.text_is has)
+    pass room begins.before (word ++ begins.after)
+    (All-weaker IsBlank IsNoBracket blank_is_none begins.before begins.blanks)
+    (subst (HasRoom room) begins.text_is has)
 
 -- and behind its first word, where that has no brackets
-pass_word : (room : ℕ) (text word : List ℕ) (words : List (List ℕ)) → words_of text ≡ word ∷ words → All IsNoBracket word → HasRoom room text → (after : List ℕ) × (words_of after ≡ words) × HasRoom room after
+pass_word : (room : ℕ) (text word : List ℕ) (words : List (List ℕ)) → words_of text ≡ word ∷ words
+    → All IsNoBracket word → HasRoom room text → (after : List ℕ) × (words_of after ≡ words) × HasRoom room after
 pass_word room text word words e none has =
     let begins = first_word text word words e in
     (begins.after, begins.words_are, pass room word begins.after none (at_word room text word words begins has))
 
 -- and in the word
-in_word : (room : ℕ) (text word : List ℕ) (words : List (List ℕ)) → words_of text ≡ word ∷ words → HasRoom room text → HasRoom room word
-in_word room text word words e has = let begins = first_word text word words e in front room word begins.after (at_word room text word words begins has)
+in_word : (room : ℕ) (text word : List ℕ) (words : List (List ℕ)) → words_of text ≡ word ∷ words → HasRoom room text
+    → HasRoom room word
+in_word room text word words e has =
+    let begins = first_word text word words e in front room word begins.after (at_word room text word words begins has)
 
 -- brackets nest at most 16 deep in the line that a text is, where they do not open too far
 line_within : (text : List ℕ) (l : Line) → IsShallow text → SpellsLine (words_of text) l → nest_line l ≤ 16
@@ -236,7 +289,8 @@ line_within text l shallow spells = go l spells.proper spells.words_are
     go : (l : Line) → IsProperLine l → words_of text ≡ line_words l → nest_line l ≤ 16
     go (pay amount symbol) proper e =
         let behind_pay = pass_word 16 text (codes "pay") _ e (text_is_none (codes "pay") refl) has in
-        let behind_amount = pass_word 16 behind_pay.0 amount _ behind_pay.1 (number_is_none amount proper.0) behind_pay.2 in
+        let behind_amount =
+        pass_word 16 behind_pay.0 amount _ behind_pay.1 (number_is_none amount proper.0) behind_pay.2 in
         symbol_within symbol 16 [] proper.1 (in_word 16 behind_amount.0 _ [] behind_amount.1 behind_amount.2)
     go (premium status) proper e =
         let behind_premium = pass_word 16 text (codes "premium") _ e (text_is_none (codes "premium") refl) has in
@@ -247,6 +301,8 @@ line_within text l shallow spells = go l spells.proper spells.words_are
     go (reserve time names) proper e = omega arith
 
 -- so where the words of such a text are no line that nests at most 16 deep, they are no line
-pub no_line_at_all : (text : List ℕ) (words : List (List ℕ)) → words ≡ words_of text → NoLine words → IsShallow text → (l : Line) → SpellsLine (words_of text) l → ⊥
+pub no_line_at_all : (text : List ℕ) (words : List (List ℕ)) → words ≡ words_of text → NoLine words → IsShallow text
+    → (l : Line) → SpellsLine (words_of text) l → ⊥
 unfolding NoLineTo
-no_line_at_all text words are none shallow l spells = none l (line_within text l shallow spells) (subst (λ ws. SpellsLine ws l) (sym are) spells)
+no_line_at_all text words are none shallow l spells =
+    none l (line_within text l shallow spells) (subst (λ ws. SpellsLine ws l) (sym are) spells)

@@ -27,11 +27,19 @@ never words none l spells = none (nest_line l) l (omega arith) spells
 
 -- the words behind `life`
 life_choice : (words : List (List ℕ)) → LineChoice (keyword form.Life ∷ words)
-life_choice (name ∷ table ∷ age ∷ []) = elim (both (plain_name_choice name) (both (name_choice table) (number_choice age))) [
-  | inl are ↦ inl (life name table age, record { proper = (are.0, are.1.0, are.1.1); words_are = refl })
-  | inr none ↦ inr (never _ (λ depth. no_life depth _ (λ n t a plain long number e.
-      none (subst IsPlainName (sym (first_is e)) plain, (subst IsLongName (sym (first_is (behind e))) long, subst IsNumber (sym (first_is (behind (behind e)))) number)))))
-]
+life_choice (name ∷ table ∷ age ∷ []) =
+    elim (both (plain_name_choice name) (both (name_choice table) (number_choice age))) [
+      | inl are ↦ inl (life name table age, record { proper = (are.0, are.1.0, are.1.1); words_are = refl })
+      | inr none ↦ inr (never _ (λ depth. no_life depth _ (λ n t a plain long number e.
+          none (
+            subst IsPlainName (sym (first_is e)) plain,
+            (
+              subst IsLongName (sym (first_is (behind e))) long,
+              subst IsNumber (sym (first_is (behind (behind e))))
+                  number,
+            ),
+          ))))
+    ]
 life_choice words = inr (never _ (λ depth. no_life depth _ (λ n t a plain long number e. omega (arith, ap length e))))
 
 -- those behind `ties`
@@ -45,10 +53,22 @@ ties_choice words = inr (never _ (λ depth. no_ties depth _ (λ rule e. omega (a
 -- those behind `pay`
 pay_choice : (words : List (List ℕ)) → LineChoice (keyword form.Pay ∷ words)
 pay_choice (amount ∷ word ∷ []) = elim (number_choice amount) [
-  | inr none ↦ inr (never _ (λ depth. no_pay depth _ (λ a symbol deep is proper e. none (subst IsNumber (sym (first_is e)) is))))
+  | inr none ↦
+      inr (never _ (λ depth. no_pay depth _ (λ a symbol deep is proper e. none (subst IsNumber (sym (first_is e)) is))))
   | inl is ↦ elim (symbol_or_none word) [
-    | inl read ↦ inl (pay amount read.0, record { proper = (is, read.1.proper); words_are = ap (λ w. keyword form.Pay ∷ amount ∷ w ∷ []) read.1.bytes })
-    | inr none ↦ inr (never _ (λ depth. no_pay depth _ (λ a symbol deep number proper e. none symbol (record { proper = proper; bytes = first_is (behind e) }))))
+    | inl read ↦
+        inl (
+          pay amount read.0,
+          record {
+            proper = (is, read.1.proper);
+            words_are = ap (λ w. keyword form.Pay ∷ amount ∷ w ∷ []) read.1.bytes;
+          },
+        )
+    | inr none ↦
+        inr (never _ (λ depth. no_pay depth _ (λ a symbol deep number proper e. none symbol (record {
+          proper = proper;
+          bytes = first_is (behind e);
+        }))))
   ]
 ]
 pay_choice words = inr (never _ (λ depth. no_pay depth _ (λ a symbol deep is proper e. omega (arith, ap length e))))
@@ -56,8 +76,19 @@ pay_choice words = inr (never _ (λ depth. no_pay depth _ (λ a symbol deep is p
 -- those behind `premium`
 premium_choice : (words : List (List ℕ)) → LineChoice (keyword form.Premium ∷ words)
 premium_choice (word ∷ []) = elim (status_or_none word) [
-  | inl read ↦ inl (premium read.0, record { proper = read.1.proper; words_are = ap (λ w. keyword form.Premium ∷ w ∷ []) read.1.bytes })
-  | inr none ↦ inr (never _ (λ depth. no_premium depth _ (λ status deep proper e. none status (record { proper = proper; bytes = first_is e }))))
+  | inl read ↦
+      inl (
+        premium read.0,
+        record {
+          proper = read.1.proper;
+          words_are = ap (λ w. keyword form.Premium ∷ w ∷ []) read.1.bytes;
+        },
+      )
+  | inr none ↦
+      inr (never _ (λ depth. no_premium depth _ (λ status deep proper e. none status (record {
+        proper = proper;
+        bytes = first_is e;
+      }))))
 ]
 premium_choice words = inr (never _ (λ depth. no_premium depth _ (λ status deep proper e. omega (arith, ap length e))))
 
@@ -66,21 +97,37 @@ reserve_choice : (words : List (List ℕ)) → LineChoice (keyword form.Reserve 
 reserve_choice [] = inr (never _ (λ depth. no_reserve depth _ (λ time names is all e. omega (arith, ap length e))))
 reserve_choice (time ∷ names) = elim (both (number_choice time) (all_choice IsLongName name_choice names)) [
   | inl are ↦ inl (reserve time names, record { proper = (are.0, are.1); words_are = refl })
-  | inr none ↦ inr (never _ (λ depth. no_reserve depth _ (λ t ns is all e. none (subst IsNumber (sym (first_is e)) is, subst (All IsLongName) (sym (behind e)) all))))
+  | inr none ↦
+      inr (never _ (λ depth. no_reserve depth _
+      (λ t ns is all e. none (subst IsNumber (sym (first_is e)) is, subst (All IsLongName) (sym (behind e)) all))))
 ]
 
 -- pairs of a year and a fraction, or none
-rates_choice : (words : List (List ℕ)) → ((rates : List LaterRate) × All IsProperRate rates × (words ≡ rate_words rates)) ⊎ NoRates words
+rates_choice : (words : List (List ℕ))
+    → ((rates : List LaterRate) × All IsProperRate rates × (words ≡ rate_words rates)) ⊎ NoRates words
 rates_choice [] = inl ([], All-nil IsProperRate, refl)
 rates_choice (word ∷ []) = inr (no_rates_of_one (word ∷ []) refl)
 rates_choice (year ∷ word ∷ words) = elim (number_choice year) [
   | inr none ↦ inr (no_rates_of_two year word words (λ rate is. none (subst IsNumber (sym is.year_is) is.proper.year)))
   | inl is ↦ elim (fraction_choice word) [
-    | inr none ↦ inr (no_rates_of_two year word words (λ rate is. none rate.p rate.q (record { p_is = is.proper.p; q_is = is.proper.q; word_is = is.fraction_is })))
+    | inr none ↦
+        inr (no_rates_of_two year word words (λ rate is. none rate.p rate.q (record {
+          p_is = is.proper.p;
+          q_is = is.proper.q;
+          word_is = is.fraction_is;
+        })))
     | inl read ↦ elim (rates_choice words) [
       | inl rest ↦
           let rate : LaterRate = record { year = year; p = read.0; q = read.1 } in
-          inl (rate ∷ rest.0, All-cons IsProperRate rate rest.0 (record { year = is; p = read.2.p_is; q = read.2.q_is }) rest.1, ap₂ (λ w ws. year ∷ w ∷ ws) read.2.word_is rest.2)
+          inl (
+            rate ∷ rest.0,
+            All-cons IsProperRate rate rest.0 (record {
+              year = is;
+              p = read.2.p_is;
+              q = read.2.q_is;
+            }) rest.1,
+            ap₂ (λ w ws. year ∷ w ∷ ws) read.2.word_is rest.2,
+          )
       | inr none ↦ inr (not_more none)
     ]
   ]
@@ -92,9 +139,15 @@ rates_choice (year ∷ word ∷ words) = elim (number_choice year) [
 
 -- the words behind `interest`
 interest_choice : (words : List (List ℕ)) → LineChoice (keyword form.Interest ∷ words)
-interest_choice [] = inr (never _ (λ depth. no_interest depth _ (λ p q rates is_p is_q proper e. omega (arith, ap length e))))
+interest_choice [] =
+    inr (never _ (λ depth. no_interest depth _ (λ p q rates is_p is_q proper e. omega (arith, ap length e))))
 interest_choice (word ∷ words) = elim (fraction_choice word) [
-  | inr none ↦ inr (never _ (λ depth. no_interest depth _ (λ p q rates is_p is_q proper e. none p q (record { p_is = is_p; q_is = is_q; word_is = first_is e }))))
+  | inr none ↦
+      inr (never _ (λ depth. no_interest depth _ (λ p q rates is_p is_q proper e. none p q (record {
+        p_is = is_p;
+        q_is = is_q;
+        word_is = first_is e;
+      }))))
   | inl read ↦ elim (rates_choice words) [
     | inl rest ↦ inl (
       interest read.0 read.1 rest.0,
@@ -103,7 +156,8 @@ interest_choice (word ∷ words) = elim (fraction_choice word) [
         words_are = ap₂ (λ w ws. keyword form.Interest ∷ w ∷ ws) read.2.word_is rest.2;
       },
     )
-    | inr none ↦ inr (never _ (λ depth. no_interest depth _ (λ p q rates is_p is_q proper e. none rates proper (behind e))))
+    | inr none ↦
+        inr (never _ (λ depth. no_interest depth _ (λ p q rates is_p is_q proper e. none rates proper (behind e))))
   ]
 ]
 
@@ -144,7 +198,8 @@ keyword_choice word = elim (same_text word (keyword form.Interest)) [
       ]
 ]
   where
-    none : word ≢ keyword form.Interest → word ≢ keyword form.Life → word ≢ keyword form.Ties → word ≢ keyword form.Pay → word ≢ keyword form.Premium → word ≢ keyword form.Reserve
+    none : word ≢ keyword form.Interest → word ≢ keyword form.Life → word ≢ keyword form.Ties → word ≢ keyword form.Pay
+        → word ≢ keyword form.Premium → word ≢ keyword form.Reserve
         → (f : Form) → word ≢ keyword f
     none a b c d e g form.Interest = a
     none a b c d e g form.Life = b

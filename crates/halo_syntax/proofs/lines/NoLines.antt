@@ -29,7 +29,8 @@ pub first_is : {v w : List ℕ} {vs ws : List (List ℕ)} → v ∷ vs ≡ w ∷
 first_is e = cc
 
 -- a line begins with the word of its form
-pub no_keyword : (depth : ℕ) (first : List ℕ) (words : List (List ℕ)) → ((f : Form) → first ≢ keyword f) → NoLineTo depth (first ∷ words)
+pub no_keyword : (depth : ℕ) (first : List ℕ) (words : List (List ℕ)) → ((f : Form) → first ≢ keyword f)
+    → NoLineTo depth (first ∷ words)
 unfolding NoLineTo
 no_keyword depth first words none line deep s = go line s.words_are
   where
@@ -43,7 +44,8 @@ no_keyword depth first words none line deep s = go line s.words_are
 
 -- behind `interest` a fraction and pairs have to come
 pub no_interest : (depth : ℕ) (words : List (List ℕ))
-    → ((p q : List ℕ) (rates : List LaterRate) → IsNumber p → IsNumber q → All IsProperRate rates → words ≡ fraction_word p q ∷ rate_words rates → ⊥)
+    → ((p q : List ℕ) (rates : List LaterRate) → IsNumber p → IsNumber q → All IsProperRate rates → words
+    ≡ fraction_word p q ∷ rate_words rates → ⊥)
     → NoLineTo depth (keyword form.Interest ∷ words)
 unfolding NoLineTo
 no_interest depth words none line deep s = go line s.proper s.words_are
@@ -54,7 +56,8 @@ no_interest depth words none line deep s = go line s.proper s.words_are
 
 -- behind `life` two names and a number have to come
 pub no_life : (depth : ℕ) (words : List (List ℕ))
-    → ((name table age : List ℕ) → IsPlainName name → IsLongName table → IsNumber age → words ≡ name ∷ table ∷ age ∷ [] → ⊥)
+    → ((name table age : List ℕ) → IsPlainName name → IsLongName table → IsNumber age → words
+    ≡ name ∷ table ∷ age ∷ [] → ⊥)
     → NoLineTo depth (keyword form.Life ∷ words)
 unfolding NoLineTo
 no_life depth words none line deep s = go line s.proper s.words_are
@@ -64,7 +67,8 @@ no_life depth words none line deep s = go line s.proper s.words_are
     go l proper e = absurd (omega (arith, ap word_code e))
 
 -- behind `ties` a rule has to come
-pub no_ties : (depth : ℕ) (words : List (List ℕ)) → ((r : Ties) → words ≡ rule_word r ∷ [] → ⊥) → NoLineTo depth (keyword form.Ties ∷ words)
+pub no_ties : (depth : ℕ) (words : List (List ℕ)) → ((r : Ties) → words ≡ rule_word r ∷ [] → ⊥)
+    → NoLineTo depth (keyword form.Ties ∷ words)
 unfolding NoLineTo
 no_ties depth words none line deep s = go line s.words_are
   where
@@ -74,7 +78,8 @@ no_ties depth words none line deep s = go line s.words_are
 
 -- behind `pay` a number and a symbol have to come
 pub no_pay : (depth : ℕ) (words : List (List ℕ))
-    → ((amount : List ℕ) (symbol : Symbol) → nest_body symbol.body ≤ depth → IsNumber amount → IsProperSymbol symbol → words ≡ amount ∷ symbol_bytes symbol [] ∷ [] → ⊥)
+    → ((amount : List ℕ) (symbol : Symbol) → nest_body symbol.body ≤ depth → IsNumber amount → IsProperSymbol symbol →
+    words ≡ amount ∷ symbol_bytes symbol [] ∷ [] → ⊥)
     → NoLineTo depth (keyword form.Pay ∷ words)
 unfolding NoLineTo
 no_pay depth words none line deep s = go line deep s.proper s.words_are

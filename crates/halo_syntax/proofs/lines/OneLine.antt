@@ -12,15 +12,20 @@ use Rattle.halo_syntax.proofs.lines.NoLines.{behind, first_is, word_code}
 use Rattle.halo_syntax.proofs.lines.Slashes.{fraction_one}
 
 -- pairs of a year and a fraction are told by their words
-rates_one : (rates others : List LaterRate) → All IsProperRate rates → All IsProperRate others → rate_words rates ≡ rate_words others → rates ≡ others
+rates_one : (rates others : List LaterRate) → All IsProperRate rates → All IsProperRate others
+    → rate_words rates ≡ rate_words others → rates ≡ others
 rates_one [] [] a b e = refl
 rates_one [] (other ∷ others) a b e = absurd (omega (arith, ap length e))
 rates_one (rate ∷ rates) [] a b e = absurd (omega (arith, ap length e))
 rates_one (rate ∷ rates) (other ∷ others) a b e =
-    let fraction = fraction_one rate.p rate.q other.p other.q (All-head IsProperRate rate rates a).p (All-head IsProperRate other others b).p (first_is (behind e)) in
+    let fraction =
+    fraction_one rate.p rate.q other.p other.q (All-head IsProperRate rate rates a).p
+    (All-head IsProperRate other others b).p (first_is (behind e)) in
     let year = first_is e in
     let first : rate ≡ other = λ i. record { year = year i; p = fraction.0 i; q = fraction.1 i } in
-    let rest = rates_one rates others (All-tail IsProperRate rate rates a) (All-tail IsProperRate other others b) (behind (behind e)) in
+    let rest =
+    rates_one rates others (All-tail IsProperRate rate rates a) (All-tail IsProperRate other others b)
+    (behind (behind e)) in
     cc
 
 -- a rule is told by its word
@@ -42,10 +47,17 @@ same_words (life name table age) (life other second years) a b e = cc
 same_words (ties r) (ties s) a b e = ap ties (rule_one r s (first_is (behind e)))
 same_words (pay amount symbol) (pay other second) a b e =
     let first = first_is (behind e) in
-    let same = symbol_unique (symbol_bytes symbol []) symbol second (record { proper = a.1; bytes = refl }) (record { proper = b.1; bytes = first_is (behind (behind e)) }) in
+    let same =
+    symbol_unique (symbol_bytes symbol []) symbol second (record {
+      proper = a.1;
+      bytes = refl;
+    }) (record { proper = b.1; bytes = first_is (behind (behind e)) }) in
     cc
 same_words (premium status) (premium other) a b e =
-    ap premium (status_unique (body_bytes status []) status other (record { proper = a; bytes = refl }) (record { proper = b; bytes = first_is (behind e) }))
+    ap premium (status_unique (body_bytes status []) status other (record {
+      proper = a;
+      bytes = refl;
+    }) (record { proper = b; bytes = first_is (behind e) }))
 same_words (reserve time names) (reserve other others) a b e = cc
 same_words l m a b e = absurd (omega (arith, ap word_code e))
 

@@ -16,7 +16,8 @@ pub number_has_none : (digits : List ℕ) → IsNumber digits → All IsNoSlash 
 number_has_none digits is = All-weaker IsDigit IsNoSlash (λ b digit e. omega (arith, digit.0, digit.1)) digits is.1
 
 -- a word is cut at its first slash in one way
-pub cut_one : (p r q s : List ℕ) → All IsNoSlash p → All IsNoSlash r → p ++ (slash ∷ q) ≡ r ++ (slash ∷ s) → (p ≡ r) × (q ≡ s)
+pub cut_one : (p r q s : List ℕ) → All IsNoSlash p → All IsNoSlash r → p ++ (slash ∷ q) ≡ r ++ (slash ∷ s)
+    → (p ≡ r) × (q ≡ s)
 cut_one [] [] q s a b e = (refl, cc)
 cut_one [] (y ∷ r) q s a b e = absurd (All-head IsNoSlash y r b (sym (ap (λ w. get_or w 0 0) e)))
 cut_one (x ∷ p) [] q s a b e = absurd (All-head IsNoSlash x p a (ap (λ w. get_or w 0 0) e))
@@ -26,6 +27,8 @@ cut_one (x ∷ p) (y ∷ r) q s a b e =
     (cc, rest.1)
 
 -- a fraction is told by its word
-pub fraction_one : (p q r s : List ℕ) → IsNumber p → IsNumber r → fraction_word p q ≡ fraction_word r s → (p ≡ r) × (q ≡ s)
+pub fraction_one : (p q r s : List ℕ) → IsNumber p → IsNumber r → fraction_word p q ≡ fraction_word r s
+    → (p ≡ r) × (q ≡ s)
 fraction_one p q r s is_p is_r e =
-    cut_one p r q s (number_has_none p is_p) (number_has_none r is_r) (sym (append_assoc p (codes "/") q) ∙ e ∙ append_assoc r (codes "/") s)
+    cut_one p r q s (number_has_none p is_p) (number_has_none r is_r)
+    (sym (append_assoc p (codes "/") q) ∙ e ∙ append_assoc r (codes "/") s)

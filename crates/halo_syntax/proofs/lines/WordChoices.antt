@@ -32,7 +32,12 @@ pub all_choice : {X : Type 0} (P : X → Type 0) → ((x : X) → Decided (P x))
 all_choice P choice [] = inl (All-nil P)
 all_choice P choice (x ∷ xs) = elim (choice x) [
   | inr none ↦ inr (λ all. none (All-head P x xs all))
-  | inl first ↦ elim (all_choice P choice xs) [ inr none ↦ inr (λ all. none (All-tail P x xs all)) | inl rest ↦ inl (All-cons P x xs first rest) ]
+  | inl first ↦
+      elim (all_choice P choice xs) [
+        | inr none ↦ inr (λ all. none (All-tail P x xs all))
+        | inl rest ↦ inl
+            (All-cons P x xs first rest)
+      ]
 ]
 
 -- a test
@@ -57,17 +62,27 @@ number_choice word = both (some_choice word) (all_choice IsDigit digit_choice wo
 -- a name
 pub name_choice : (word : List ℕ) → Decided (IsLongName word)
 name_choice [] = inr (λ is. is)
-name_choice (first ∷ rest) = both (test_choice (is_ascii_alphabetic first)) (all_choice (λ b. is_name_byte b ≡ true) (λ b. test_choice (is_name_byte b)) rest)
+name_choice (first ∷ rest) =
+    both (test_choice (is_ascii_alphabetic first))
+    (all_choice (λ b. is_name_byte b ≡ true) (λ b. test_choice (is_name_byte b)) rest)
 
 -- a name other than `bar`
 pub plain_name_choice : (word : List ℕ) → Decided (IsPlainName word)
-plain_name_choice word = both (name_choice word) (elim (same_text word bar_text) [ inl same ↦ inr (λ other. other same) | inr other ↦ inl other ])
+plain_name_choice word =
+    both (name_choice word) (elim (same_text word bar_text)
+    [ inl same ↦ inr (λ other. other same) | inr other ↦ inl other ])
 
 -- a rule for ties
-pub rule_choice : (word : List ℕ) → ((rule : Ties) × (word ≡ rule_word rule)) ⊎ ((rule : Ties) → word ≡ rule_word rule → ⊥)
+pub rule_choice : (word : List ℕ)
+    → ((rule : Ties) × (word ≡ rule_word rule)) ⊎ ((rule : Ties) → word ≡ rule_word rule → ⊥)
 rule_choice word = elim (same_text word (rule_word Declared)) [
   | inl same ↦ inl (Declared, same)
-  | inr no_declared ↦ elim (same_text word (rule_word Even)) [ inl same ↦ inl (Even, same) | inr no_even ↦ inr (no_rule no_declared no_even) ]
+  | inr no_declared ↦
+      elim (same_text word (rule_word Even)) [
+        | inl same ↦ inl (Even, same)
+        | inr no_even ↦ inr
+            (no_rule no_declared no_even)
+      ]
 ]
   where
     no_rule : (word ≡ rule_word Declared → ⊥) → (word ≡ rule_word Even → ⊥) → (rule : Ties) → word ≡ rule_word rule → ⊥
@@ -95,9 +110,20 @@ pub fraction_choice : (word : List ℕ) → ((p q : List ℕ) × IsFraction word
 fraction_choice word = elim (slash_choice word) [
   | inr none ↦ inr (λ p q is. no_slash p q (subst (All IsNoSlash) (is.word_is ∙ append_assoc p (codes "/") q) none))
   | inl cut ↦ elim (both (number_choice cut.0) (number_choice cut.1)) [
-    | inl numbers ↦ inl (cut.0, cut.1, record { p_is = numbers.0; q_is = numbers.1; word_is = cut.2 ∙ sym (append_assoc cut.0 (codes "/") cut.1) })
+    | inl numbers ↦
+        inl (
+          cut.0,
+          cut.1,
+          record {
+            p_is = numbers.0;
+            q_is = numbers.1;
+            word_is = cut.2 ∙ sym (append_assoc cut.0 (codes "/") cut.1);
+          },
+        )
     | inr none ↦ inr (λ p q is.
-        let same = cut_one cut.0 p cut.1 q cut.3 (number_has_none p is.p_is) (sym cut.2 ∙ is.word_is ∙ append_assoc p (codes "/") q) in
+        let same =
+        cut_one cut.0 p cut.1 q cut.3 (number_has_none p is.p_is)
+        (sym cut.2 ∙ is.word_is ∙ append_assoc p (codes "/") q) in
         none (subst IsNumber (sym same.0) is.p_is, subst IsNumber (sym same.1) is.q_is))
   ]
 ]

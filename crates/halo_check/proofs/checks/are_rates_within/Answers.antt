@@ -9,10 +9,23 @@ pub loop-rate-init : goal.loop-rate-init
 loop-rate-init c = each_none IsRateWithin plain_rate c.args.rates.now
 
 pub loop-rate-preserved : goal.loop-rate-preserved
-loop-rate-preserved c = each_more IsRateWithin plain_rate c.args.rates.now c.loop-rate.rate-index _ c.loop-rate-test.true ((c.if-not-is_rate_within.ensures (each_at IsProperRate plain_rate c.args.rates.now c.requires c.loop-rate.rate-index _ c.loop-rate-test.true)).0 refl) c.loop-rate.invariant
+loop-rate-preserved c =
+    each_more IsRateWithin plain_rate c.args.rates.now c.loop-rate.rate-index _ c.loop-rate-test.true
+    ((c.if-not-is_rate_within.ensures (each_at IsProperRate plain_rate c.args.rates.now c.requires
+    c.loop-rate.rate-index _ c.loop-rate-test.true)).0 refl) c.loop-rate.invariant
 
 pub returns-then-not-is_rate_within : goal.returns-then-not-is_rate_within
-returns-then-not-is_rate_within c = (λ h. absurd cc, λ all. absurd (not_each IsRateWithin plain_rate c.args.rates.now c.loop-rate.rate-index _ c.loop-rate-test.true (λ within. cc ((c.if-not-is_rate_within.ensures (each_at IsProperRate plain_rate c.args.rates.now c.requires c.loop-rate.rate-index _ c.loop-rate-test.true)).1 within)) all))
+returns-then-not-is_rate_within c = (
+  λ h. absurd cc,
+  λ all. absurd (not_each IsRateWithin plain_rate c.args.rates.now c.loop-rate.rate-index _
+      c.loop-rate-test.true (λ within. cc ((c.if-not-is_rate_within.ensures
+      (each_at IsProperRate plain_rate c.args.rates.now c.requires c.loop-rate.rate-index _
+      c.loop-rate-test.true)).1 within)) all),
+)
 
 pub returns : goal.returns
-returns c = (λ h. each_done IsRateWithin plain_rate c.args.rates.now c.loop-rate.rate-index (omega (arith, c.loop-rate-test.false)) c.loop-rate.invariant, λ all. refl)
+returns c = (
+  λ h. each_done IsRateWithin plain_rate c.args.rates.now c.loop-rate.rate-index
+      (omega (arith, c.loop-rate-test.false)) c.loop-rate.invariant,
+  λ all. refl,
+)

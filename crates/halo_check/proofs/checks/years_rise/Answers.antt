@@ -11,16 +11,22 @@ pub loop-place-init : goal.loop-place-init
 loop-place-init c = λ i below. absurd (omega (arith, below))
 
 pub year_of-requires-clause-proper : goal.year_of-requires-clause-proper
-year_of-requires-clause-proper c = each_at IsProperRate plain_rate c.args.rates.now c.requires.proper c.loop-place.place _ c.loop-place-test.true
+year_of-requires-clause-proper c =
+    each_at IsProperRate plain_rate c.args.rates.now c.requires.proper c.loop-place.place _ c.loop-place-test.true
 
 pub year_of-requires-clause-within : goal.year_of-requires-clause-within
-year_of-requires-clause-within c = each_at IsRateWithin plain_rate c.args.rates.now c.requires.within c.loop-place.place _ c.loop-place-test.true
+year_of-requires-clause-within c =
+    each_at IsRateWithin plain_rate c.args.rates.now c.requires.within c.loop-place.place _ c.loop-place-test.true
 
 pub year_of-requires-in-loop-place-clause-proper : goal.year_of-requires-in-loop-place-clause-proper
-year_of-requires-in-loop-place-clause-proper c = each_at IsProperRate plain_rate c.args.rates.now c.requires.proper (c.loop-place.place - 1) _ (omega (arith, c.loop-place-test.true))
+year_of-requires-in-loop-place-clause-proper c =
+    each_at IsProperRate plain_rate c.args.rates.now c.requires.proper (c.loop-place.place - 1) _
+    (omega (arith, c.loop-place-test.true))
 
 pub year_of-requires-in-loop-place-clause-within : goal.year_of-requires-in-loop-place-clause-within
-year_of-requires-in-loop-place-clause-within c = each_at IsRateWithin plain_rate c.args.rates.now c.requires.within (c.loop-place.place - 1) _ (omega (arith, c.loop-place-test.true))
+year_of-requires-in-loop-place-clause-within c =
+    each_at IsRateWithin plain_rate c.args.rates.now c.requires.within (c.loop-place.place - 1) _
+    (omega (arith, c.loop-place-test.true))
 
 pub returns-then-year_of : goal.returns-then-year_of
 returns-then-year_of c =
@@ -29,8 +35,18 @@ returns-then-year_of c =
     let before = year_here c.args.rates.now (c.loop-place.place - 1) (omega (arith, c.loop-place-test.true)) in (
       λ h. absurd cc,
       λ rise.
-          let next = rw back at (rise (c.loop-place.place - 1) (rw (back, length-map c.args.rates.now plain_rate) c.loop-place-test.true)) in
-          absurd (omega (arith, next, here, before, c.year_of.ensures, c.year_of-in-loop-place.ensures, c.if-year_of.true)),
+          let next =
+          rw back at (rise (c.loop-place.place - 1)
+          (rw (back, length-map c.args.rates.now plain_rate) c.loop-place-test.true)) in
+          absurd (omega (
+            arith,
+            next,
+            here,
+            before,
+            c.year_of.ensures,
+            c.year_of-in-loop-place.ensures,
+            c.if-year_of.true,
+          )),
     )
 
 pub loop-place-preserved : goal.loop-place-preserved
@@ -42,4 +58,8 @@ loop-place-preserved c =
     (omega (arith, here, before, c.year_of.ensures, c.year_of-in-loop-place.ensures, c.if-year_of.false))
 
 pub returns : goal.returns
-returns c = (λ h i below. c.loop-place.invariant i (omega (arith, below, length-map c.args.rates.now plain_rate, c.loop-place-test.false)), λ rise. refl)
+returns c = (
+  λ h i below. c.loop-place.invariant i (omega
+      (arith, below, length-map c.args.rates.now plain_rate, c.loop-place-test.false)),
+  λ rise. refl,
+)

@@ -10,9 +10,12 @@ returns-then-not-is_new c =
     let names = map (λ name. name.now) c.args.names.now in
     let place = c.loop-name.name-index in
     let is = sym (get_or-map (λ name. name.now) c.args.names.now place none [] c.loop-name-test.true) in
-    let here : place < length names = omega (arith, length-map c.args.names.now (λ name. name.now), c.loop-name-test.true) in (
+    let here : place < length names =
+    omega (arith, length-map c.args.names.now (λ name. name.now), c.loop-name-test.true) in (
       (λ t. cc t),
-      (λ h. absurd (same_again names place c.loop-name.earlier (get_or c.args.names.now place none) c.loop-name.invariant is (sym c.if-not-is_new.true ∙ c.in-Ok.ensures.added) (λ i before. h i place before here))),
+      (λ h. absurd (same_again names place c.loop-name.earlier (get_or c.args.names.now place none)
+          c.loop-name.invariant is (sym c.if-not-is_new.true ∙ c.in-Ok.ensures.added)
+          (λ i before. h i place before here))),
     )
 
 pub loop-name-preserved : goal.loop-name-preserved
@@ -21,4 +24,5 @@ loop-name-preserved c =
     let names = map (λ name. name.now) c.args.names.now in
     let place = c.loop-name.name-index in
     let is = sym (get_or-map (λ name. name.now) c.args.names.now place none [] c.loop-name-test.true) in
-    apart_more names place c.loop-name.earlier c.insert.new.self (get_or c.args.names.now place none) c.loop-name.invariant is (sym c.if-not-is_new.false ∙ c.in-Ok.ensures.added) c.in-Ok.ensures.updates
+    apart_more names place c.loop-name.earlier c.insert.new.self (get_or c.args.names.now place none)
+    c.loop-name.invariant is (sym c.if-not-is_new.false ∙ c.in-Ok.ensures.added) c.in-Ok.ensures.updates

@@ -10,5 +10,8 @@ pub returns : goal.returns
 returns c =
     let names = life_names c.args.lives.now in
     let count = length-map c.args.lives.now (λ line. line.name) in
-    let some = subst (λ n. IfSome c.place_of_life.result (λ p. (p ≡ place_of names c.args.name.now) × (p < n))) (sym count) c.place_of_life.ensures.some in
-    subst (λ answer. IsTrue answer ↔ Contains names c.args.name.now) (sym c.is_some.ensures) (IsSome-place names c.args.name.now c.place_of_life.result some c.place_of_life.ensures.none)
+    let some =
+    subst (λ n. IfSome c.place_of_life.result (λ p. (p ≡ place_of names c.args.name.now) × (p < n))) (sym count)
+    c.place_of_life.ensures.some in
+    subst (λ answer. IsTrue answer ↔ Contains names c.args.name.now) (sym c.is_some.ensures)
+    (IsSome-place names c.args.name.now c.place_of_life.result some c.place_of_life.ensures.none)

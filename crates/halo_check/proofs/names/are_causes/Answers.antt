@@ -7,10 +7,21 @@ pub loop-name-init : goal.loop-name-init
 loop-name-init c = each_none (λ name. Contains c.args.tables.now.causes name) (λ name. name.now) c.args.names.now
 
 pub loop-name-preserved : goal.loop-name-preserved
-loop-name-preserved c = each_more (λ name. Contains c.args.tables.now.causes name) (λ name. name.now) c.args.names.now c.loop-name.name-index _ c.loop-name-test.true (c.if-not-is_cause.ensures.0 refl) c.loop-name.invariant
+loop-name-preserved c =
+    each_more (λ name. Contains c.args.tables.now.causes name) (λ name. name.now) c.args.names.now
+    c.loop-name.name-index _ c.loop-name-test.true (c.if-not-is_cause.ensures.0 refl) c.loop-name.invariant
 
 pub returns-then-not-is_cause : goal.returns-then-not-is_cause
-returns-then-not-is_cause c = (λ h. absurd cc, λ all. absurd (not_each (λ name. Contains c.args.tables.now.causes name) (λ name. name.now) c.args.names.now c.loop-name.name-index _ c.loop-name-test.true (λ has. cc (c.if-not-is_cause.ensures.1 has)) all))
+returns-then-not-is_cause c = (
+  λ h. absurd cc,
+  λ all. absurd (not_each (λ name. Contains c.args.tables.now.causes name) (λ name. name.now)
+      c.args.names.now c.loop-name.name-index _ c.loop-name-test.true (λ has. cc (c.if-not-is_cause.ensures.1 has))
+      all),
+)
 
 pub returns : goal.returns
-returns c = (λ h. each_done (λ name. Contains c.args.tables.now.causes name) (λ name. name.now) c.args.names.now c.loop-name.name-index (omega (arith, c.loop-name-test.false)) c.loop-name.invariant, λ all. refl)
+returns c = (
+  λ h. each_done (λ name. Contains c.args.tables.now.causes name) (λ name. name.now) c.args.names.now
+      c.loop-name.name-index (omega (arith, c.loop-name-test.false)) c.loop-name.invariant,
+  λ all. refl,
+)

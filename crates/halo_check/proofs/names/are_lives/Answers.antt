@@ -8,10 +8,21 @@ pub loop-name-init : goal.loop-name-init
 loop-name-init c = each_none (λ name. Contains (life_names c.args.lives.now) name) (λ name. name.now) c.args.names.now
 
 pub loop-name-preserved : goal.loop-name-preserved
-loop-name-preserved c = each_more (λ name. Contains (life_names c.args.lives.now) name) (λ name. name.now) c.args.names.now c.loop-name.name-index _ c.loop-name-test.true (c.if-not-is_life.ensures.0 refl) c.loop-name.invariant
+loop-name-preserved c =
+    each_more (λ name. Contains (life_names c.args.lives.now) name) (λ name. name.now) c.args.names.now
+    c.loop-name.name-index _ c.loop-name-test.true (c.if-not-is_life.ensures.0 refl) c.loop-name.invariant
 
 pub returns-then-not-is_life : goal.returns-then-not-is_life
-returns-then-not-is_life c = (λ h. absurd cc, λ all. absurd (not_each (λ name. Contains (life_names c.args.lives.now) name) (λ name. name.now) c.args.names.now c.loop-name.name-index _ c.loop-name-test.true (λ has. cc (c.if-not-is_life.ensures.1 has)) all))
+returns-then-not-is_life c = (
+  λ h. absurd cc,
+  λ all. absurd (not_each (λ name. Contains (life_names c.args.lives.now) name) (λ name. name.now)
+      c.args.names.now c.loop-name.name-index _ c.loop-name-test.true (λ has. cc (c.if-not-is_life.ensures.1 has))
+      all),
+)
 
 pub returns : goal.returns
-returns c = (λ h. each_done (λ name. Contains (life_names c.args.lives.now) name) (λ name. name.now) c.args.names.now c.loop-name.name-index (omega (arith, c.loop-name-test.false)) c.loop-name.invariant, λ all. refl)
+returns c = (
+  λ h. each_done (λ name. Contains (life_names c.args.lives.now) name) (λ name. name.now) c.args.names.now
+      c.loop-name.name-index (omega (arith, c.loop-name-test.false)) c.loop-name.invariant,
+  λ all. refl,
+)

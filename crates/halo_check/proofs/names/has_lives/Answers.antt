@@ -7,7 +7,9 @@ pub returns-in-Premium : goal.returns-in-Premium
 returns-in-Premium c = rw c.in-Premium.is (rw c.deref-in-Premium.ensures.value at c.names_declared-in-Premium.ensures)
 
 pub returns-in-Reserve : goal.returns-in-Reserve
-returns-in-Reserve c = rw c.in-Reserve.is (rw (c.deref-in-Reserve.ensures.value, c.deref-in-Reserve-2.ensures.value) at c.are_lives.ensures)
+returns-in-Reserve c =
+    rw c.in-Reserve.is (rw (c.deref-in-Reserve.ensures.value, c.deref-in-Reserve-2.ensures.value) at
+    c.are_lives.ensures)
 
 pub names_declared-requires : goal.names_declared-requires
 names_declared-requires c = let proper = rw c.in-Pay.is at c.requires in proper.1.body

@@ -24,17 +24,20 @@ nodes_of_list-returns-else-is_empty t c =
 pub nodes_of_body-returns-in-Reversion : goal.nodes_of_body-returns-in-Reversion
 nodes_of_body-returns-in-Reversion t c =
     let arm = c.in-Reversion in
-    let is = ap (λ b. nodes (tree_of_body any_life b)) (ap plain_body arm.is ∙ plain_body-Reversion arm.first arm.second) in
+    let is =
+    ap (λ b. nodes (tree_of_body any_life b)) (ap plain_body arm.is ∙ plain_body-Reversion arm.first arm.second) in
     omega (arith, is)
 
 pub nodes_of_member-returns-in-AtLeast : goal.nodes_of_member-returns-in-AtLeast
 nodes_of_member-returns-in-AtLeast t c =
     let arm = c.in-AtLeast in
-    let is = ap (λ m. nodes (tree_of_node any_life m)) (ap plain_node arm.is ∙ plain_node-AtLeast arm.field-0 arm.members) in
+    let is =
+    ap (λ m. nodes (tree_of_node any_life m)) (ap plain_node arm.is ∙ plain_node-AtLeast arm.field-0 arm.members) in
     omega (arith, is)
 
 pub nodes_of_member-returns-in-Exactly : goal.nodes_of_member-returns-in-Exactly
 nodes_of_member-returns-in-Exactly t c =
     let arm = c.in-Exactly in
-    let is = ap (λ m. nodes (tree_of_node any_life m)) (ap plain_node arm.is ∙ plain_node-Exactly arm.field-0 arm.members) in
+    let is =
+    ap (λ m. nodes (tree_of_node any_life m)) (ap plain_node arm.is ∙ plain_node-Exactly arm.field-0 arm.members) in
     omega (arith, is)

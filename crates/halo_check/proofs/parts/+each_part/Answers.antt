@@ -37,30 +37,41 @@ body_passes-returns-then-list_passes g t c =
 pub members_pass-member_passes-requires : goal.members_pass-member_passes-requires
 members_pass-member_passes-requires g t c κs within =
     let first = c.args.members.now.first.value in
-    let proper = subst (λ m. IsProper (plain_node m)) (sym c.deref.ensures) (AreProper-members_of (plain_node first) c.args.members.now.others.items c.requires).0 in
+    let proper =
+    subst (λ m. IsProper (plain_node m)) (sym c.deref.ensures)
+    (AreProper-members_of (plain_node first) c.args.members.now.others.items c.requires).0 in
     (search (rules, members.the_lemmas), (search rules, proper))
 
 pub members_pass-all_pass-requires : goal.members_pass-all_pass-requires
 members_pass-all_pass-requires g t c κs within =
     let first = c.args.members.now.first.value in
-    let proper = subst AllProper (sym c.deref-then-member_passes.ensures.value) (AreProper-members_of (plain_node first) c.args.members.now.others.items c.requires).1 in
+    let proper =
+    subst AllProper (sym c.deref-then-member_passes.ensures.value)
+    (AreProper-members_of (plain_node first) c.args.members.now.others.items c.requires).1 in
     (search (rules, members.the_lemmas), (search rules, proper))
 
 pub members_pass-returns-then-member_passes : goal.members_pass-returns-then-member_passes
 members_pass-returns-then-member_passes g t c =
     let P = g.T.PartTest.member_fact c.args.test.now in
     let Q = g.T.PartTest.list_fact c.args.test.now in
-    let whole = AtEachMember-members_of P Q (plain_node c.args.members.now.first.value) c.args.members.now.others.items in
-    let first = subst (λ m. AtEach P Q (plain_node m)) c.deref.ensures (c.member_passes.ensures.0 c.if-member_passes.true) in
-    let rest = subst (λ ms. IsTrue c.all_pass.result ↔ AllHave P Q ms) c.deref-then-member_passes.ensures.value c.all_pass.ensures in
+    let whole =
+    AtEachMember-members_of P Q (plain_node c.args.members.now.first.value) c.args.members.now.others.items in
+    let first =
+    subst (λ m. AtEach P Q (plain_node m)) c.deref.ensures (c.member_passes.ensures.0 c.if-member_passes.true) in
+    let rest =
+    subst (λ ms. IsTrue c.all_pass.result ↔ AllHave P Q ms) c.deref-then-member_passes.ensures.value
+    c.all_pass.ensures in
     ((λ passes. whole.1 (first, rest.0 passes)), (λ h. rest.1 (whole.0 h).1))
 
 pub members_pass-returns-else-member_passes : goal.members_pass-returns-else-member_passes
 members_pass-returns-else-member_passes g t c =
     let P = g.T.PartTest.member_fact c.args.test.now in
     let Q = g.T.PartTest.list_fact c.args.test.now in
-    let whole = AtEachMember-members_of P Q (plain_node c.args.members.now.first.value) c.args.members.now.others.items in
-    let first = subst (λ m. IsTrue c.member_passes.result ↔ AtEach P Q (plain_node m)) c.deref.ensures c.member_passes.ensures in
+    let whole =
+    AtEachMember-members_of P Q (plain_node c.args.members.now.first.value) c.args.members.now.others.items in
+    let first =
+    subst (λ m. IsTrue c.member_passes.result ↔ AtEach P Q (plain_node m)) c.deref.ensures c.member_passes.ensures
+    in
     ((λ passes. cc (passes, c.if-member_passes.false)), (λ h. first.1 (whole.0 h).0))
 
 pub member_passes-list_passes-requires : goal.member_passes-list_passes-requires
@@ -98,5 +109,7 @@ member_passes-returns-in-Exactly g t c =
 
 pub member_passes-returns-else-passes : goal.member_passes-returns-else-passes
 member_passes-returns-else-passes g t c =
-    let itself = AtEach-itself (g.T.PartTest.member_fact c.args.test.now) (g.T.PartTest.list_fact c.args.test.now) (plain_node c.args.member.now) in
+    let itself =
+    AtEach-itself (g.T.PartTest.member_fact c.args.test.now) (g.T.PartTest.list_fact c.args.test.now)
+    (plain_node c.args.member.now) in
     ((λ passes. cc (passes, c.if-passes.false)), (λ h. c.passes.ensures.1 (itself h)))

@@ -6,4 +6,6 @@ use Rattle.halo_check.specs.Sharing.{ShareNoTerm}
 use Rattle.halo_check.proofs.sharing.+terms.Given as goal
 
 abbrev pub invariant-share_no_term-loop-place : goal.invariant-share_no_term-loop-place
-invariant-share_no_term-loop-place l = ShareNoTerm (trees_in (drop l.place l.members)) (tree_of l.other) ↔ ShareNoTerm (trees_in l.members) (tree_of l.other)
+invariant-share_no_term-loop-place l =
+    ShareNoTerm (trees_in (drop l.place l.members)) (tree_of l.other) ↔ ShareNoTerm (trees_in l.members)
+    (tree_of l.other)

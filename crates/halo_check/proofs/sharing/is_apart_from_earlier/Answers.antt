@@ -15,10 +15,15 @@ share_nothing-requires-clause-other c = lives_below-member _ _ _ _ c.at-in-loop-
 pub returns-then-not-share_nothing : goal.returns-then-not-share_nothing
 returns-then-not-share_nothing c = (
   (λ h. absurd (cc h)),
-  (λ apart. not_apart_at c.args.members.now c.loop-earlier.earlier c.args.later _ _ c.at.ensures c.at-in-loop-earlier.ensures _ c.share_nothing.ensures c.if-not-share_nothing.true (apart _ c.loop-earlier-test.true)),
+  (λ apart. not_apart_at c.args.members.now c.loop-earlier.earlier c.args.later _ _ c.at.ensures
+      c.at-in-loop-earlier.ensures _ c.share_nothing.ensures c.if-not-share_nothing.true
+      (apart _ c.loop-earlier-test.true)),
 )
 
 pub loop-earlier-preserved : goal.loop-earlier-preserved
 loop-earlier-preserved c =
-    let here = apart_at c.args.members.now c.loop-earlier.earlier c.args.later _ _ c.at.ensures c.at-in-loop-earlier.ensures _ c.share_nothing.ensures c.if-not-share_nothing.false in
-    below_more (λ earlier. AreApartAt (trees_in c.args.members.now) earlier c.args.later) _ c.loop-earlier.invariant here
+    let here =
+    apart_at c.args.members.now c.loop-earlier.earlier c.args.later _ _ c.at.ensures c.at-in-loop-earlier.ensures _
+    c.share_nothing.ensures c.if-not-share_nothing.false in
+    below_more (λ earlier. AreApartAt (trees_in c.args.members.now) earlier c.args.later) _ c.loop-earlier.invariant
+    here

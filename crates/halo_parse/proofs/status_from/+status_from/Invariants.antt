@@ -9,6 +9,7 @@ use Rattle.halo_parse.proofs.status_from.+status_from.Given as goal
 
 abbrev pub invariant-members_from-loop-member : goal.invariant-members_from-loop-member
 invariant-members_from-loop-member l = record {
-  all_are : trees_in l.all ≡ trees_of_members (place_of (life_names l.lives)) (members_of (plain_node l.members.first.value) (take l.member-index l.members.others.items));
+  all_are : trees_in l.all ≡ trees_of_members (place_of (life_names l.lives))
+      (members_of (plain_node l.members.first.value) (take l.member-index l.members.others.items));
   count : length l.all ≡ l.member-index + 1;
 }

@@ -5,4 +5,5 @@ use Rattle.halo_spell.proofs.lines.write_lives.Given as goal
 
 abbrev pub invariant-loop-declared : goal.invariant-loop-declared
 invariant-loop-declared l =
-    l.into.items ++ lines_text (map (life_line l.tables) (drop l.declared-index l.lives)) ≡ l.fn.into.items ++ lines_text (map (life_line l.tables) l.lives)
+    l.into.items ++ lines_text (map (life_line l.tables) (drop l.declared-index l.lives))
+    ≡ l.fn.into.items ++ lines_text (map (life_line l.tables) l.lives)

@@ -7,4 +7,5 @@ use Rattle.halo_spell.proofs.lines.write_names.Given as goal
 
 abbrev pub invariant-loop-declared : goal.invariant-loop-declared
 invariant-loop-declared l =
-    l.into.items ++ names_text (names_in (life_names (drop l.declared-index l.lives)) l.left) ≡ l.fn.into.items ++ names_text (names_in (life_names l.lives) l.alive)
+    l.into.items ++ names_text (names_in (life_names (drop l.declared-index l.lives)) l.left)
+    ≡ l.fn.into.items ++ names_text (names_in (life_names l.lives) l.alive)

@@ -7,5 +7,6 @@ use Rattle.halo_spell.proofs.lines.write_pays.Given as goal
 
 abbrev pub invariant-loop-pay : goal.invariant-loop-pay
 invariant-loop-pay l =
-    l.into.items ++ lines_text (map (pay_line (life_names l.lives) l.tables.causes) (map pay_of (drop l.pay-index l.pays)))
+    l.into.items ++ lines_text (map (pay_line (life_names l.lives) l.tables.causes)
+    (map pay_of (drop l.pay-index l.pays)))
     ≡ l.fn.into.items ++ lines_text (map (pay_line (life_names l.lives) l.tables.causes) (map pay_of l.pays))

@@ -8,6 +8,9 @@ use Rattle.halo_spell.proofs.lines.write_reserve.Goals as goal
 
 pub returns : goal.returns
 returns c =
-    let words = join_words (decimal c.args.reserve.now.time) (names_in (life_names c.args.lives.now) c.args.reserve.now.alive) in
+    let words =
+    join_words (decimal c.args.reserve.now.time) (names_in (life_names c.args.lives.now) c.args.reserve.now.alive)
+    in
     let time = rw c.from.ensures at c.in_ok-write_number.ensures in
-    IfOk-equal _ _ _ _ c.write_bytes-2.ensures (reserve_written _ _ _ _ _ _ _ c.in_ok-write_bytes.ensures time c.in_ok-write_names.ensures words)
+    IfOk-equal _ _ _ _ c.write_bytes-2.ensures
+    (reserve_written _ _ _ _ _ _ _ c.in_ok-write_bytes.ensures time c.in_ok-write_names.ensures words)

@@ -1,4 +1,5 @@
--- The measures are nodes: each call goes down in the tree. The members that were written and those that are left are all members.
+-- The measures are nodes: each call goes down in the tree. The members that were written and those that are left are
+-- all members.
 use Rattle.std.proofs.Common.{◌≡◌, ◌+◌, ◌*◌, ◌++◌, drop}
 use Rattle.halo_contract.specs.PlainContract.{life_names}
 use Rattle.halo_status.specs.Nodes.{nodes, nodes_in}
@@ -20,4 +21,5 @@ decreases-write_members l = 3 * nodes_in (trees_in l.members.now) + 1
 
 abbrev pub invariant-write_members-loop-place : goal.invariant-write_members-loop-place
 invariant-write_members-loop-place l =
-    l.into.items ++ left_from (life_names l.lives) l.mark l.place (drop l.place l.members) ≡ l.fn.into.items ++ left_from (life_names l.lives) l.mark 0 l.members
+    l.into.items ++ left_from (life_names l.lives) l.mark l.place (drop l.place l.members)
+    ≡ l.fn.into.items ++ left_from (life_names l.lives) l.mark 0 l.members

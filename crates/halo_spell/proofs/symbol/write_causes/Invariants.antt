@@ -6,4 +6,5 @@ use Rattle.halo_spell.proofs.symbol.write_causes.Given as goal
 
 abbrev pub invariant-loop-cause : goal.invariant-loop-cause
 invariant-loop-cause l =
-    l.into.items ++ set_bytes l.before (names_from l.tables.causes l.mask l.cause) ≡ l.fn.into.items ++ set_bytes brace_open (names_from l.tables.causes l.mask 0)
+    l.into.items ++ set_bytes l.before (names_from l.tables.causes l.mask l.cause)
+    ≡ l.fn.into.items ++ set_bytes brace_open (names_from l.tables.causes l.mask 0)

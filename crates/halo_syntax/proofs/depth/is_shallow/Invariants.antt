@@ -9,5 +9,6 @@ invariant-loop-byte l = record {
   closed : l.closed ≡ count_of round_close (take l.byte-index l.line);
   few_opened : l.opened ≤ l.byte-index;
   few_closed : l.closed ≤ l.byte-index;
-  shallow : (n : ℕ) → n ≤ l.byte-index → count_of round_open (take n l.line) ≤ count_of round_close (take n l.line) + 16;
+  shallow : (n : ℕ) → n ≤ l.byte-index
+      → count_of round_open (take n l.line) ≤ count_of round_close (take n l.line) + 16;
 }

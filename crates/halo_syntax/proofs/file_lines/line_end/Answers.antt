@@ -15,11 +15,14 @@ or_length : (test : ℕ → Bool) (bytes : List ℕ) (found : Option ℕ)
     → unwrap_or found (length bytes) ≡ position_or_len test bytes
 or_length test bytes found is =
     ap (λ o. unwrap_or o (length bytes)) is
-    ∙ cond_both (ltb (position_or_len test bytes) (length bytes)) (Some (position_or_len test bytes)) None (λ o. unwrap_or o (length bytes) ≡ position_or_len test bytes)
+    ∙ cond_both (ltb (position_or_len test bytes) (length bytes)) (Some (position_or_len test bytes)) None
+    (λ o. unwrap_or o (length bytes) ≡ position_or_len test bytes)
     (λ _. refl)
     (λ past. omega (arith, ltb-false _ _ past, prefix_len-le-length (λ b. not (test b)) bytes))
 
 pub returns : goal.returns
 returns c =
-    let found = position_from_yields_List is_line_feed _ _ c.position.result c.position.ensures.ran (YieldsList-from_slice c.args.bytes.now cc) (λ x b q k. search (rules, tests)) in
+    let found =
+    position_from_yields_List is_line_feed _ _ c.position.result c.position.ensures.ran
+    (YieldsList-from_slice c.args.bytes.now cc) (λ x b q k. search (rules, tests)) in
     c.unwrap_or.ensures ∙ or_length is_line_feed c.args.bytes.now c.position.result found

@@ -16,4 +16,5 @@ or_line line (Some front) is = sym (ap without_return is ∙ without_return-at f
 pub returns : goal.returns
 returns c =
     ap (λ (line : Bor (List ℕ)). line.now) c.unwrap_or.ensures
-    ∙ or_line c.args.line c.strip_suffix.result (strip_suffix_is Decides-eqb c.args.line.now (13 ∷ []) c.strip_suffix.result c.strip_suffix.ensures.cases)
+    ∙ or_line c.args.line c.strip_suffix.result
+    (strip_suffix_is Decides-eqb c.args.line.now (13 ∷ []) c.strip_suffix.result c.strip_suffix.ensures.cases)

@@ -17,9 +17,12 @@ returns-else-is_plain_name-clause-syntax c = λ _. no_life _ _ (λ name table ag
     let words = c.args.words.now in
     elim c.else-is_plain_name.branch [
       | else-is_plain_name-via-then-is_plain_name+then-is_name+else-is_number w ↦
-          iff_false w.is_number.ensures w.if-is_number.false (subst IsNumber (sym (text_is words _ e 2 _ (omega arith))) number)
+          iff_false w.is_number.ensures w.if-is_number.false
+          (subst IsNumber (sym (text_is words _ e 2 _ (omega arith))) number)
       | else-is_plain_name-via-then-is_plain_name+else-is_name w ↦
-          iff_false w.is_name.ensures w.if-is_name.false (subst IsLongName (sym (text_is words _ e 1 _ (omega arith))) long)
+          iff_false w.is_name.ensures w.if-is_name.false
+          (subst IsLongName (sym (text_is words _ e 1 _ (omega arith))) long)
       | else-is_plain_name-via-else-is_plain_name w ↦
-          iff_false c.is_plain_name.ensures w.if-is_plain_name.false (subst IsPlainName (sym (text_is words _ e 0 _ (omega arith))) plain)
+          iff_false c.is_plain_name.ensures w.if-is_plain_name.false
+          (subst IsPlainName (sym (text_is words _ e 0 _ (omega arith))) plain)
     ])

@@ -19,5 +19,6 @@ returns-clause-ok c =
     let are : AreWords c.args.text.now c.in_ok-spans.spans.items = grind arith in
     let items = c.deref-span-items.result.now in
     c.loop-span.invariant.read
-    ∙ ap (map (text_at c.args.text.now)) (take_all c.loop-span.span-index items c.loop-span-test.false ∙ c.deref-span-items.ensures.value)
+    ∙ ap (map (text_at c.args.text.now)) (take_all c.loop-span.span-index items c.loop-span-test.false
+    ∙ c.deref-span-items.ensures.value)
     ∙ words_at c.args.text.now 0 c.in_ok-spans.spans.items are

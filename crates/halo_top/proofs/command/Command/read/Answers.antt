@@ -5,7 +5,8 @@ use Rattle.halo_top.proofs.command.Command.read.Goals as goal
 
 pub returns-in-len2 : goal.returns-in-len2
 returns-in-len2 c =
-    let words = two_words c.args.words.now c.word-item.result c.number-item.result (omega (arith, c.in-len2.len_at_least))
+    let words =
+    two_words c.args.words.now c.word-item.result c.number-item.result (omega (arith, c.in-len2.len_at_least))
     (omega (arith, c.in-len2.len_below)) c.word-item.is c.number-item.is in
     let is : string_bytes c.word-item.result ≡ codes "sample"
     = sym c.as_str.ensures.value ∙ same_text _ _ c.if-eq.ensures in
