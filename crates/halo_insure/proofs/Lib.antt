@@ -17,3 +17,5 @@ pub mod PartTotals
 pub mod Passes
 pub mod SomeLeave
 pub mod TreeTasks
+pub mod Endowments
+pub mod EndOfTerm

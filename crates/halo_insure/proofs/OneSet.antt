@@ -46,8 +46,18 @@ module _ (b : Basis) (leaving alive : ℕ → ℕ) (ended : (k : ℕ) → EndWit
             after.narrow (wider leave v d narrow_v leaves.narrow) (wider survive w d narrow_w survives.narrow) one);
       }
 
--- where nothing is due, exactly nothing is what is due
+-- exactly nothing is what is worth nothing
 module _ (b : Basis) (leaving alive : ℕ → ℕ) (due : ℕ → Due) where
+  pub worthless : (d k years : ℕ) (i : Ends) → worth_of_dues b leaving alive due k years ≡ 0
+      → i.lo ≡ pos 0 → i.hi ≡ pos 0 → EnclosesDues b leaving alive due d k years i
+  worthless d k years i none low high = record {
+    encloses = rw none (record { low = rw low (omega (arith, ints)); high = rw high (omega (arith, ints)) });
+    from = omega (arith, ints, low);
+    bound = omega (arith, ints, high);
+    narrow = record { near = rw (low, high) (omega (arith, ints)) };
+  }
+
+  -- and so it is where nothing is due
   pub no-worth : (years k : ℕ) → most_due due k years ≡ 0 → worth_of_dues b leaving alive due k years ≡ 0
   no-worth zero k none = refl
   no-worth (suc years) k none =
@@ -58,10 +68,4 @@ module _ (b : Basis) (leaving alive : ℕ → ℕ) (due : ℕ → Due) where
 
   pub nothing-due : (d k years : ℕ) (i : Ends)
       → most_due due k years ≡ 0 → i.lo ≡ pos 0 → i.hi ≡ pos 0 → EnclosesDues b leaving alive due d k years i
-  nothing-due d k years i none low high = record {
-    encloses = rw (no-worth years k none)
-        (record { low = rw low (omega (arith, ints)); high = rw high (omega (arith, ints)) });
-    from = omega (arith, ints, low);
-    bound = omega (arith, ints, high);
-    narrow = record { near = rw (low, high) (omega (arith, ints)) };
-  }
+  nothing-due d k years i none low high = worthless d k years i (no-worth years k none) low high

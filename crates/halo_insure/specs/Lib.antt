@@ -7,3 +7,5 @@ pub mod YearSets
 pub mod Parts
 pub mod Along
 pub mod Events
+pub mod YearOfTask
+pub mod Ending

@@ -12,6 +12,7 @@
 
 mod along;
 mod due;
+mod ending;
 mod events;
 pub mod laws;
 mod leavings;

@@ -18,7 +18,7 @@ pub(crate) struct Chances {
 }
 
 /// So many payments with a chance. For none there is nothing to multiply.
-fn payments(chance: Ival, count: u32) -> Ival
+pub(crate) fn payments(chance: Ival, count: u32) -> Ival
     requires chance { IsWithin chance (pos 0) (pos fine) }
     ensures from { pos 0 ≤ℤ result.lo }
     ensures bound { result.hi ≤ℤ pos (count * fine) }

@@ -11,12 +11,13 @@ ghost use Rattle.halo_along.specs.Along.{products_along};
 ghost use Rattle.halo_along.specs.OfTask.{tree_task_of};
 ghost use Rattle.halo_along.specs.Parts.{EnclosesPartOfOne};
 ghost use Rattle.halo_insure.specs.Along.{PartsGoAlong};
-ghost use Rattle.halo_insure.specs.Events.{AreEventsOf, worth_on};
+ghost use Rattle.halo_insure.specs.Events.{AreEventsOf, events_of, worth_on};
 ghost use Rattle.halo_compile.specs.NamedSets.{products_of_pass};
-ghost use Rattle.halo_insure.specs.OfTask.{insured_basis};
+ghost use Rattle.halo_insure.specs.OfTask.{HoldDuesOn, insured_basis};
 ghost use Rattle.halo_insure.specs.Parts.{EnclosesEnd, EnclosesLeaving};
 
 use crate::along::parts_go_along;
+use crate::ending::dues_on_end;
 use crate::events::Events;
 use crate::pass::pass;
 use crate::value::worth_at;
@@ -69,6 +70,9 @@ pub fn on_life<const N: usize, const M: usize, L: Ledger>(
 
 /// What of the value of an insurance of 1 falls on the end of a term of `n` years: as `on_life`,
 /// and exactly 0 where no payment can fall on that end.
+///
+/// Where the tree does not tell it, it takes no pass over the years, but a product for each year up
+/// to that end and for each set of the lives that the body names.
 pub fn on_term<const N: usize, const M: usize, L: Ledger>(
     task: &Task<N, M>,
     n: u16,
@@ -100,7 +104,7 @@ pub fn on_term<const N: usize, const M: usize, L: Ledger>(
 }
 
 // What falls on some events, at the start of the task's group with the lives alive that it says, by
-// one pass over the years for all sets of the lives that the body names.
+// what is due for all sets of the lives that the body names.
 fn worth_on<const N: usize, const M: usize, L: Ledger>(
     task: &Task<N, M>,
     events: Events,
@@ -117,6 +121,26 @@ fn worth_on<const N: usize, const M: usize, L: Ledger>(
         (worth_on events b (pay_of_task task.now) group.start alive) result }
     ensures cost { steps.new ≤ steps.old + products_of_pass task.now }
 {
-    pass(task, events, work, steps);
+    dues_on(task, events, work, steps);
     worth_at(task, events, task.group.start(), task.group.alive(), work)
+}
+
+// What is due on some events for all sets of lives, at the start of the task's group: by one pass
+// over the years, if not only the last year of a term pays.
+fn dues_on<const N: usize, const M: usize, L: Ledger>(
+    task: &Task<N, M>,
+    events: Events,
+    work: &mut Work<M>,
+    steps: &mut Steps<L>,
+)
+    requires task { IsTask task.now }
+    requires insurance { task.now.pay.now.kind ≡ Insurance }
+    requires events { AreEventsOf N events }
+    ensures values { HoldDuesOn task.now (events_of events) task.now.group.now.start work.new }
+    ensures cost { steps.new ≤ steps.old + products_of_pass task.now }
+{
+    match events {
+        Events::End(n) => dues_on_end(task, n, work, steps),
+        _ => pass(task, events, work, steps),
+    }
 }

@@ -30,7 +30,7 @@ pub(crate) struct Year<'a, const M: usize> {
 }
 
 /// Makes the values of a set exactly 0.
-pub(crate) fn clear<const M: usize>(work: &mut Work<M>, set: u16)
+fn clear<const M: usize>(work: &mut Work<M>, set: u16)
     requires { set < M }
     ensures plus { entry work.new.plus set ≡ nothing }
     ensures minus { entry work.new.minus set ≡ nothing }
@@ -43,8 +43,22 @@ pub(crate) fn clear<const M: usize>(work: &mut Work<M>, set: u16)
     work.put(set, Ival::exact(0), Ival::exact(0));
 }
 
+/// Makes the values of all sets within `named` exactly 0.
+pub(crate) fn clear_all<const M: usize>(work: &mut Work<M>, named: u16)
+    requires { named < M }
+    ensures { (mask : ℕ) → is_within mask named ≡ true →
+        (entry work.new.plus mask ≡ nothing) × (entry work.new.minus mask ≡ nothing) }
+{
+    clear(work, 0);
+    let mut set = 0;
+    while set != named {
+        set = next_within(set, named);
+        clear(work, set);
+    }
+}
+
 /// The coefficient of a set in the year after, and 0 where the form does not go on.
-fn next_coefficient<const M: usize>(year: &Year<M>, set: u16) -> i64
+pub(crate) fn next_coefficient<const M: usize>(year: &Year<M>, set: u16) -> i64
     requires set { set < M }
     requires sized { IsSized (coefficient_at year.now.next.now set) 4096 }
     ensures value { result ≡ next_coefficient year.now set }

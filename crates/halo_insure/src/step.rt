@@ -12,14 +12,14 @@ ghost use Rattle.halo_insure.specs.Dues.{ends_count};
 ghost use Rattle.halo_insure.specs.Leavings.{counts};
 ghost use Rattle.halo_compile.specs.OfTask.{pay_of_task};
 ghost use Rattle.halo_insure.specs.OfTask.{HoldDuesAt, HoldDuesOn};
+ghost use Rattle.halo_insure.specs.YearOfTask.{IsYearOf};
 
 use crate::due::{YearPays, payment_in};
 use crate::leavings::leavings;
-use crate::sets::{Year, clear, sets_back};
+use crate::sets::{Year, clear_all, sets_back};
 use halo_compile::{Task, can_fall_on_term, failing_lives};
 use halo_life::Work;
 use halo_num::Steps;
-use halo_sums::next_within;
 use std::sync::ledger::Ledger;
 
 /// The values of all sets of named lives at the horizon of the task, and at any later time: nothing
@@ -30,13 +30,7 @@ pub fn at_horizon<const N: usize, const M: usize>(task: &Task<N, M>, work: &mut 
     ensures values { (t : ℕ) → task.now.horizon ≤ t → HoldDuesAt task.now t work.new }
 {
     let _start = task.group.start();
-    let named = task.pay.body.lives();
-    clear(work, 0);
-    let mut set = 0;
-    while set != named {
-        set = next_within(set, named);
-        clear(work, set);
-    }
+    clear_all(work, task.pay.body.lives());
 }
 
 /// The values of all sets of named lives at time `k`, by those at time k + 1. They do not depend on
@@ -89,7 +83,22 @@ pub(crate) fn carry_back<const N: usize, const M: usize, L: Ledger>(
     let named = task.pay.body.lives();
     task.group.survivals(k, named, work, steps);
     leavings(task.group, k, named, counted, task.pay.causes, work, steps);
-    let year = Year {
+    sets_back(work, &year_of(task, k, ends), named, steps);
+}
+
+/// Year `k` of an insurance, where the end of a term of k + 1 years counts or not.
+pub(crate) fn year_of<'a, const N: usize, const M: usize>(
+    task: &'a Task<N, M>,
+    k: u16,
+    ends: bool,
+) -> Year<'a, M>
+    requires task { IsTask task.now }
+    requires insurance { task.now.pay.now.kind ≡ Insurance }
+    requires time { k < task.now.horizon }
+    ensures { IsYearOf task.now k ends result }
+{
+    let _start = task.group.start();
+    Year {
         discount: task.interest.year(k),
         pays: YearPays {
             payment: payment_in(task.pay, k),
@@ -98,8 +107,7 @@ pub(crate) fn carry_back<const N: usize, const M: usize, L: Ledger>(
         here: task.form.at(k),
         next: task.form.at(next_time(k, task.horizon)),
         goes_on: goes_on(k, task.horizon),
-    };
-    sets_back(work, &year, named, steps);
+    }
 }
 
 // Whether the form goes on after a time.

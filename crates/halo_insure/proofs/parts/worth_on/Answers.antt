@@ -21,8 +21,8 @@ worth_at-requires g c =
             (
               c.requires.events,
               (
-                subst (λ (t : ℕ). HoldDuesOn task (events_of c.args.events) t c.pass.new.work) (sym start)
-                    c.pass.ensures.values,
+                subst (λ (t : ℕ). HoldDuesOn task (events_of c.args.events) t c.dues_on.new.work) (sym start)
+                    c.dues_on.ensures.values,
                 alive-survive g.row.N task.group.now c.alive.ensures.group _ _ start c.alive.ensures.value,
               ),
             ),

@@ -3,14 +3,12 @@ use Rattle.halo_status.specs.Pay.{pay_of}
 use Rattle.halo_compile.specs.OfTask.{pay_of_task}
 use Rattle.halo_insure.specs.OfTask.{insured_basis}
 use Rattle.halo_insure.proofs.Carried.{dues-carried, held-same}
-use Rattle.halo_insure.proofs.Small.{coefficient-room}
-use Rattle.halo_compile.proofs.Coefficients.{coefficients-of-one}
 use Rattle.halo_sums.specs.Sums.{numbers_from, sum_over}
 use Rattle.halo_sums.specs.Within.{is_within}
 use Rattle.halo_sums.proofs.Within.{within-below}
 use Rattle.halo_compile.specs.NamedSets.{named_of_task}
 use Rattle.halo_compile.proofs.NamedSets.{all-named, modest-within, named-sets, named-size, set-below}
-use Rattle.halo_insure.proofs.Tasks.{are-lives, has-form, lives-of-task, next-of-form}
+use Rattle.halo_insure.proofs.Tasks.{are-lives, lives-of-task}
 use Rattle.halo_insure.proofs.step.carry_back.Goals as goal
 
 pub survivals-requires : goal.survivals-requires
@@ -43,19 +41,11 @@ leavings-requires g c =
       ),
     )
 
-pub at-requires : goal.at-requires
-at-requires g c =
-    (lit< tt, (lit< tt, has-form c.args.task.now c.requires.task c.requires.insurance c.args.k c.requires.time))
-
-pub at-requires-2 : goal.at-requires-2
-at-requires-2 g c =
-    (lit< tt, (lit< tt, has-form c.args.task.now c.requires.task c.requires.insurance _ c.next_time.ensures.within))
-
 pub sets_back-requires : goal.sets_back-requires
 sets_back-requires g c =
     let task = c.args.task.now in
     let is = c.requires.task in
-    let few = c.start-start.ensures.group.few in
+    let year = c.year_of.ensures in
     let named = all-named c.lives-named.result (pay_of task.pay.now).body c.lives-named.ensures in
     let below = set-below task is c.lives-named.result named in
     let inside : (mask : ℕ) → is_within mask c.lives-named.result ≡ true → mask < 2 ^ g.row.N =
@@ -66,17 +56,13 @@ sets_back-requires g c =
         (
           below,
           (
-            c.year.ensures.within,
+            year.within,
             (
-              c.payment_in.ensures.small,
+              year.small,
               (
-                λ mask h. rw (coefficients-of-one (pay_of task.pay.now) g.row.N c.args.k c.at.result.now
-                    (c.at.ensures (pay_of task.pay.now) g.row.N task.horizon is.form) mask (inside mask h))
-                    (coefficient-room (pay_of_task task) c.args.k g.row.N mask few),
+                λ mask h. year.here_sized mask (inside mask h),
                 (
-                  λ mask h. rw (coefficients-of-one (pay_of task.pay.now) g.row.N c.next_time.result c.at-2.result.now
-                      (c.at-2.ensures (pay_of task.pay.now) g.row.N task.horizon is.form) mask (inside mask h))
-                      (coefficient-room (pay_of_task task) c.next_time.result g.row.N mask few),
+                  λ mask h. year.next_sized mask (inside mask h),
                   (
                     λ mask h. (c.leavings.ensures.chances mask (inside mask h) h).within,
                     (
@@ -104,14 +90,10 @@ returns-clause-values g c = λ events counting ends held.
     let is = c.requires.task in
     let group = c.start-start.ensures.group in
     let b = insured_basis task in
-    let poly = c.at.ensures (pay_of task.pay.now) g.row.N task.horizon is.form in
-    let later = c.at-2.ensures (pay_of task.pay.now) g.row.N task.horizon is.form in
+    let year = c.year_of.ensures in
     dues-carried {m = g.row.M} g.row.N b (are-lives task group) (pay_of_task task) refl events
     (lives-of-task task group) c.args.k (rw (← is.horizon_is) is.horizon_in) (rw (← is.horizon_is) c.requires.time)
-    _ c.year.ensures.encloses c.year.ensures.narrow c.payment_in.ensures.payment ends
-    (λ mask h. coefficients-of-one (pay_of task.pay.now) g.row.N c.args.k c.at.result.now poly mask h)
-    (λ mask h. rw (← is.horizon_is) (next-of-form task c.args.k
-    c.next_time.result c.goes_on.result c.at-2.result.now later c.goes_on.ensures c.next_time.ensures.next mask h))
+    _ year.discount year.narrow year.payment (year.counts ∙ ends) year.here (rw (← is.horizon_is) year.next)
     c.lives-named.result c.args.counted c.lives-named.ensures counting
     c.leavings.new.into c.sets_back.new.work
     (λ mask h inside. rw c.leavings.ensures.survivals (c.survivals.ensures.chances mask h inside))

@@ -1,7 +1,7 @@
 use Rattle.std.proofs.Common.{◌≡◌, ℕ, ◌+◌, ◌-◌, ◌<◌, true}
 use Rattle.halo_sums.specs.Within.{is_within}
 use Rattle.halo_life.specs.Lists.{entry, nothing}
-use Rattle.halo_insure.proofs.step.at_horizon.Given as goal
+use Rattle.halo_insure.proofs.sets.clear_all.Given as goal
 
 abbrev pub invariant-loop-set : goal.invariant-loop-set
 invariant-loop-set g l = record {
