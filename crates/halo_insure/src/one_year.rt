@@ -55,8 +55,8 @@ fn due_in_year(chances: &Chances, due: Due) -> Ival
     on_leaving.add(at_end)
 }
 
-/// What comes later, if all of a set survive the year. Where nothing comes later there is nothing to
-/// multiply.
+/// What comes later, if all of a set survive the year. Where nothing comes later there is nothing
+/// to multiply.
 fn if_all_survive<L: Ledger>(later: Ival, survival: Ival, steps: &mut Steps<L>) -> Ival
     requires later { IsWithin later (pos 0) (pos (10 ^ 32)) }
     requires survival { IsWithin survival (pos 0) (pos fine) }

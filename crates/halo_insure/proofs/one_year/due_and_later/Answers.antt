@@ -39,6 +39,7 @@ returns-clause-back g c =
           c.add.ensures.encloses c.mul.ensures.encloses
           (c.due_in_year-due.ensures.encloses left alive start leaves survives)
           (carried c.if_all_survive-carried.result c.args.later c.args.chances.now.survival
-          alive start x rest c.if_all_survive-carried.ensures.order c.if_all_survive-carried.ensures.encloses survives value none)
+          alive start x rest c.if_all_survive-carried.ensures.order
+          c.if_all_survive-carried.ensures.encloses survives value none)
           discounts;
     }
