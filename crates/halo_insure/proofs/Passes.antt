@@ -1,6 +1,6 @@
 -- The pass over the years, from the horizon back.
 use Rattle.std.proofs.Common.{◌≡◌, ℕ, ◌+◌, ◌*◌, ◌-◌, ◌^◌, ◌≤◌, arith, List, Bool, ℤ}
-use Rattle.std.proofs.Math.Nat.{mul-le-mul_right}
+use Rattle.std.proofs.Math.Nat.{mul-le-mul_left, mul-le-mul_right, pow-le-pow_right}
 use Rattle.std.proofs.lemmas.Nat.{mul-le}
 use Rattle.halo_sums.specs.Masks.{bits}
 use Rattle.halo_num.specs.Ends.{Ends}
@@ -42,3 +42,10 @@ pass-cost ties years horizon n h =
     let all = mul-le (products_of_leavings ties n + 5 * 2 ^ n) years
     (8 * ((n + 1) * 2 ^ n)) (horizon + 1) (year-cost ties n) (omega (arith, h)) in
     omega (arith, all)
+
+-- and so are those for the last year of a term alone
+pub end-cost : (horizon n : ℕ) → horizon + 2 ^ n ≤ 8 * (horizon + 1) * (n + 1) * 2 ^ n
+end-cost horizon n =
+    let some : 2 ^ 0 ≤ 2 ^ n = pow-le-pow_right (omega arith) {i = 0} (omega arith) in
+    let once : horizon * 1 ≤ horizon * 2 ^ n = mul-le-mul_left horizon some in
+    omega (arith, once)

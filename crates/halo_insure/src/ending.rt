@@ -1,5 +1,5 @@
 // What falls on the end of a term of an insurance, for all sets of lives, without a pass over the
-// years: of all years only the last one of the term pays, so a pure endowment for each set tells it.
+// years: only the last year of the term pays, so the pure endowments of the sets tell it.
 ghost use Rattle.std.specs.Prelude.{◌≡◌, ◌≢◌, ℕ, ◌+◌, ◌-◌, ◌^◌, ◌<◌, ◌≤◌, nat_lt, pos, true};
 ghost use Rattle.halo_interest.specs.declared.powers.TheConstants.{LAST_TIME};
 ghost use Rattle.halo_num.specs.Ends.{IsSized, IsWithin, fine};

@@ -1,5 +1,5 @@
 // What falls on one event of an insurance.
-ghost use Rattle.std.specs.Prelude.{◌≡◌, ◌+◌, ◌<◌, ◌≤◌, false};
+ghost use Rattle.std.specs.Prelude.{◌≡◌, ◌+◌, ◌^◌, ◌<◌, ◌≤◌, false};
 ghost use Rattle.halo_interest.specs.declared.powers.TheConstants.{LAST_TIME};
 ghost use Rattle.halo_status.specs.declared.pay.Kind.TheVariants.{Insurance};
 ghost use Rattle.halo_sums.specs.Masks.{has_bit};
@@ -12,7 +12,7 @@ ghost use Rattle.halo_along.specs.OfTask.{tree_task_of};
 ghost use Rattle.halo_along.specs.Parts.{EnclosesPartOfOne};
 ghost use Rattle.halo_insure.specs.Along.{PartsGoAlong};
 ghost use Rattle.halo_insure.specs.Events.{AreEventsOf, events_of, worth_on};
-ghost use Rattle.halo_compile.specs.NamedSets.{products_of_pass};
+ghost use Rattle.halo_compile.specs.NamedSets.{named_of_task, products_of_pass};
 ghost use Rattle.halo_insure.specs.OfTask.{HoldDuesOn, insured_basis};
 ghost use Rattle.halo_insure.specs.Parts.{EnclosesEnd, EnclosesLeaving};
 
@@ -65,14 +65,15 @@ pub fn on_life<const N: usize, const M: usize, L: Ledger>(
     if parts_go_along(task) {
         return on_life_along(&TreeTask::of(task), life, steps);
     }
-    worth_on(task, Events::Leaving(life), work, steps)
+    pass(task, Events::Leaving(life), work, steps);
+    worth_at_start(task, Events::Leaving(life), work)
 }
 
 /// What of the value of an insurance of 1 falls on the end of a term of `n` years: as `on_life`,
 /// and exactly 0 where no payment can fall on that end.
 ///
-/// Where the tree does not tell it, it takes no pass over the years, but a product for each year up
-/// to that end and for each set of the lives that the body names.
+/// Where the tree does not tell it, it takes no pass over the years: with n lives named by the body
+/// and a horizon of H years the counter is raised by at most H + 2^n.
 pub fn on_term<const N: usize, const M: usize, L: Ledger>(
     task: &Task<N, M>,
     n: u16,
@@ -91,6 +92,8 @@ pub fn on_term<const N: usize, const M: usize, L: Ledger>(
         steps.new ≤ steps.old + products_along (tree_task_of task.now) }
     ensures by_sets { (PartsGoAlong task.now → ⊥) →
         steps.new ≤ steps.old + products_of_pass task.now }
+    ensures no_pass { (PartsGoAlong task.now → ⊥) →
+        steps.new ≤ steps.old + task.now.horizon + 2 ^ named_of_task task.now }
 {
     // The proof sees here that there are few lives.
     let _start = task.group.start();
@@ -100,47 +103,26 @@ pub fn on_term<const N: usize, const M: usize, L: Ledger>(
     if parts_go_along(task) {
         return on_term_along(&TreeTask::of(task), n, steps);
     }
-    worth_on(task, Events::End(n), work, steps)
+    dues_on_end(task, n, work, steps);
+    worth_at_start(task, Events::End(n), work)
 }
 
 // What falls on some events, at the start of the task's group with the lives alive that it says, by
-// what is due for all sets of the lives that the body names.
-fn worth_on<const N: usize, const M: usize, L: Ledger>(
+// what is due on them for all sets of the lives that the body names.
+fn worth_at_start<const N: usize, const M: usize>(
     task: &Task<N, M>,
     events: Events,
-    work: &mut Work<M>,
-    steps: &mut Steps<L>,
+    work: &Work<M>,
 ) -> Ival
     requires task { IsTask task.now }
     requires insurance { task.now.pay.now.kind ≡ Insurance }
     requires events { AreEventsOf N events }
-    ensures encloses { let group = task.now.group.now in
+    requires values { HoldDuesOn task.now (events_of events) task.now.group.now.start work.now }
+    ensures { let group = task.now.group.now in
         let b = insured_basis task.now in
         let alive = has_bit group.alive in
         EnclosesPartOfOne b (pay_of_task task.now) group.start alive
         (worth_on events b (pay_of_task task.now) group.start alive) result }
-    ensures cost { steps.new ≤ steps.old + products_of_pass task.now }
 {
-    dues_on(task, events, work, steps);
     worth_at(task, events, task.group.start(), task.group.alive(), work)
-}
-
-// What is due on some events for all sets of lives, at the start of the task's group: by one pass
-// over the years, if not only the last year of a term pays.
-fn dues_on<const N: usize, const M: usize, L: Ledger>(
-    task: &Task<N, M>,
-    events: Events,
-    work: &mut Work<M>,
-    steps: &mut Steps<L>,
-)
-    requires task { IsTask task.now }
-    requires insurance { task.now.pay.now.kind ≡ Insurance }
-    requires events { AreEventsOf N events }
-    ensures values { HoldDuesOn task.now (events_of events) task.now.group.now.start work.new }
-    ensures cost { steps.new ≤ steps.old + products_of_pass task.now }
-{
-    match events {
-        Events::End(n) => dues_on_end(task, n, work, steps),
-        _ => pass(task, events, work, steps),
-    }
 }

@@ -5,7 +5,7 @@ use Rattle.halo_insure.specs.Events.{events_of, worth_on}
 use Rattle.halo_insure.specs.OfTask.{HoldDuesOn, insured_basis}
 use Rattle.halo_along.specs.Parts.{EnclosesPartOfOne}
 use Rattle.halo_insure.proofs.TreeTasks.{alive-survive}
-use Rattle.halo_insure.proofs.parts.worth_on.Goals as goal
+use Rattle.halo_insure.proofs.parts.worth_at_start.Goals as goal
 
 pub worth_at-requires : goal.worth_at-requires
 worth_at-requires g c =
@@ -21,8 +21,8 @@ worth_at-requires g c =
             (
               c.requires.events,
               (
-                subst (λ (t : ℕ). HoldDuesOn task (events_of c.args.events) t c.dues_on.new.work) (sym start)
-                    c.dues_on.ensures.values,
+                subst (λ (t : ℕ). HoldDuesOn task (events_of c.args.events) t c.args.work.now) (sym start)
+                    c.requires.values,
                 alive-survive g.row.N task.group.now c.alive.ensures.group _ _ start c.alive.ensures.value,
               ),
             ),
@@ -31,8 +31,8 @@ worth_at-requires g c =
       ),
     )
 
-pub returns-clause-encloses : goal.returns-clause-encloses
-returns-clause-encloses g c =
+pub returns : goal.returns
+returns g c =
     let task = c.args.task.now in
     let P : ℕ → ℕ → Type 0 = λ t alive. EnclosesPartOfOne (insured_basis task) (pay_of_task task) t (has_bit alive)
     (worth_on c.args.events (insured_basis task) (pay_of_task task) t (has_bit alive)) c.worth_at.result in
