@@ -204,7 +204,8 @@ module _ {n m : ℕ} (task : Task n m) (is : IsTask task) (group : IsGroup n tas
     set-held part mask below endowment i of_set paid =
         let count = lives-of-task task group in
         let due = due-of-form part pay_of_one refl (end_of_term (suc k)) (horizon basis.lives pay_of_one.body)
-        (bits n mask) k year.pays.payment year.pays.ends (coefficient_at year.here.now mask) (next_coefficient year mask)
+        (bits n mask) k year.pays.payment year.pays.ends (coefficient_at year.here.now mask)
+        (next_coefficient year mask)
         of_year.payment (of_year.counts ∙ counted) (of_year.here mask below)
         (rw (← is.horizon_is) (of_year.next mask below)) in
         rw count at (end-due part basis pay_of_one mask task.group.now.start k from (rw (← is.horizon_is) before)

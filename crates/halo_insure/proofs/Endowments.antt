@@ -26,7 +26,8 @@ use Rattle.halo_compile.proofs.Tasks.{group-lives}
 use Rattle.halo_insure.specs.Ending.{EnclosesEndowment}
 
 -- all of nobody survive
-survivors-of-nobody : (u n : ℕ) (lives : List PlainLife) → length lives ≡ n → joint_survivors u (in_set (bits n 0)) lives ≡ 1
+survivors-of-nobody : (u n : ℕ) (lives : List PlainLife) → length lives ≡ n
+    → joint_survivors u (in_set (bits n 0)) lives ≡ 1
 survivors-of-nobody u n [] count = refl
 survivors-of-nobody u zero (x ∷ lives) count = absurd (omega (arith, count))
 survivors-of-nobody u (suc n) (x ∷ lives) count =
@@ -81,8 +82,13 @@ module _ (b : Basis) (n T t : ℕ) (count : length b.lives ≡ n) where
         → EnclosesChance k d v rest → EnclosesChance m e w chance → EnclosesChance (k * m) (d * e) (v + w + 1) r)
         → EnclosesEndowment b n T t mask r
     endowment-with rest chance r others one both =
-        rw (survivors-with t, survivors-with T, more (product_over (numbers_from T (t - T)) b.q) _ _,
-        more (product_over (numbers_from T (t - T)) (λ k. b.p k + b.q k)) _ _, ← wide) (both _ _ _ _ _ _ others one)
+        rw (
+          survivors-with t,
+          survivors-with T,
+          more (product_over (numbers_from T (t - T)) b.q) _ _,
+          more (product_over (numbers_from T (t - T)) (λ k. b.p k + b.q k)) _ _,
+          ← wide,
+        ) (both _ _ _ _ _ _ others one)
       where
         more : (d j s : ℕ) → d * (j * s) ≡ d * j * s
         more d j s = omega arith

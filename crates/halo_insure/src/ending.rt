@@ -185,10 +185,10 @@ fn pay_end<const M: usize>(work: &mut Work<M>, year: &Year<M>, set: u16)
     requires here { IsSized (coefficient_at year.now.here.now set) 4096 }
     requires next { IsSized (coefficient_at year.now.next.now set) 4096 }
     requires endowment { IsWithin (entry work.old.plus set) (pos 0) (pos fine) }
-    ensures plus {
-        IsPaidAtEnd above_zero year.now set (entry work.old.plus set) (entry work.new.plus set) }
-    ensures minus {
-        IsPaidAtEnd below_zero year.now set (entry work.old.plus set) (entry work.new.minus set) }
+    ensures plus { IsPaidAtEnd above_zero year.now set
+        (entry work.old.plus set) (entry work.new.plus set) }
+    ensures minus { IsPaidAtEnd below_zero year.now set
+        (entry work.old.plus set) (entry work.new.minus set) }
     ensures others { (mask : ℕ) → mask ≢ set → entry work.new.plus mask ≡ entry work.old.plus mask
         × (entry work.new.minus mask ≡ entry work.old.minus mask) }
 {

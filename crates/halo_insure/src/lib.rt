@@ -4,7 +4,8 @@
 //! coefficients of the insurance's form: a year back, what is due at the end of the year and what
 //! comes after are discounted together. One pass from the horizon back gives the values of all sets
 //! of the lives that a body names at each time, and the value for some lives alive is the sum over
-//! the sets within them. On the end of a term only one year pays, so what falls on it takes no pass.
+//! the sets within them. On the end of a term only one year pays, so what falls on it takes no
+//! pass.
 //!
 //! Where no life stands in a body twice, a value at one time goes along the tree of the body
 //! instead, if the tree can tell it: it needs no sums over sets of lives.

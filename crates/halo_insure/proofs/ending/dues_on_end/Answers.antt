@@ -22,13 +22,13 @@ returns-then-n-start-clause-values g c =
     let task = c.args.task.now in
     let body = (pay_of task.pay.now).body in
     let past : task.group.now.start < c.args.n → task.horizon < c.args.n = elim c.then-n-start.branch [
-      then-n-start-via-then-n-start w ↦ λ later. absurd (omega (
+      | then-n-start-via-then-n-start w ↦ λ later. absurd (omega (
         arith,
         w.if-n-start.true,
         c.start-start.ensures.value,
         later,
       ))
-    | then-n-start-via-else-n-start+then-task-n w ↦ λ later. w.if-task-n.true
+      | then-n-start-via-else-n-start+then-task-n w ↦ λ later. w.if-task-n.true
     ] in
     no-dues task c.requires.task c.start-start.ensures.group c.args.n past c.clear_all.new.work
     (λ mask each. c.clear_all.ensures mask (named-within c.lives-named.result body c.lives-named.ensures mask each))

@@ -40,7 +40,8 @@ with_first-endowment-requires g c =
     let next = c.next_within-set.ensures in
     let at = c.at-group.ensures in
     let IsChance = EnclosesEndowment (insured_basis task) g.row.N task.group.now.start c.args.t in
-    let smaller = filled-before IsChance c.lives-named.result c.loop-set.set c.next_within-set.result next.later next.next
+    let smaller =
+    filled-before IsChance c.lives-named.result c.loop-set.set c.next_within-set.result next.later next.next
     c.loop-set.work.plus next.within c.loop-set.invariant.sets in (
       lit< tt,
       (
