@@ -1,6 +1,6 @@
 // Runs over files in memory under damage: what the program writes, and the status that it ends
 // with. Files and sinks that fail are in `failing`, files with odd bytes or cut off in `files`, and
-// files past the limits in `limits`.
+// files at the limits and past them in `limits`.
 mod failing;
 mod files;
 mod limits;

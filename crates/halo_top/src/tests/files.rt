@@ -6,7 +6,7 @@ use std::test::Fail;
 fn odd_bytes_and_cut_files(rt: HostRuntime) -> Result<(), Fail> {
     let alloc = rt.alloc();
     // The two files, the status, and the text.
-    let rows: [(&str, &[u8], &[u8], u8, &[u8]); 7] = [
+    let rows: [(&str, &[u8], &[u8], u8, &[u8]); 9] = [
         (
             "byte-order mark, carriage returns and quotes",
             b"\xef\xbb\xbftable,age,l,death\r\nm,60,4,2\r\n\"m\",\"61\",2,1\r\nm,62,1,1\r\n",
@@ -20,6 +20,20 @@ fn odd_bytes_and_cut_files(rt: HostRuntime) -> Result<(), Fail> {
             CONTRACT,
             5,
             b"tables record 3 Number\n",
+        ),
+        (
+            "a tables file without its last line feed",
+            b"table,age,l,death\nm,60,4,2\nm,61,2,1\nm,62,1,1",
+            CONTRACT,
+            0,
+            REPORT,
+        ),
+        (
+            "a tables file cut within its last record",
+            b"table,age,l,death\nm,60,4,2\nm,61,2,1\nm,62,1",
+            CONTRACT,
+            5,
+            b"tables record 4 Fields\n",
         ),
         (
             "a tables file cut before its last record",

@@ -1,10 +1,17 @@
-// Files past the limits.
+// Files past the limits, and files at them.
 use super::{CONTRACT, TABLES, assert_files};
 use std::alloc::{AllocError, Global};
 use std::test::Fail;
 
 // The most bytes that a tables file may have.
 const TABLES_LIMIT: usize = 16_777_216;
+
+// The lines of a contract before its pays: four, and thirteen.
+const THREE_LIVES: &[u8] = b"interest 1/1\nlife x m 60\nlife y m 60\nlife z m 60\n";
+
+const TWELVE_LIVES: &[u8] = b"interest 1/1\nlife a m 60\nlife b m 60\nlife c m 60\nlife d m 60\n\
+    life e m 60\nlife f m 60\nlife g m 60\nlife h m 60\nlife i m 60\nlife j m 60\n\
+    life k m 60\nlife l m 60\n";
 
 // The front, then the part as many times, and then the back.
 type Pieces<'a> = (&'a [u8], &'a [u8], usize, &'a [u8]);
@@ -22,7 +29,7 @@ fn bytes_of(alloc: Global, (front, part, times, back): Pieces<'_>) -> Result<Vec
 #[test]
 fn contracts_past_a_limit(rt: HostRuntime) -> Result<(), Fail> {
     let alloc = rt.alloc();
-    let rows: [(&str, Pieces<'_>, &[u8]); 2] = [
+    let rows: [(&str, Pieces<'_>, &[u8]); 5] = [
         (
             "an amount of 60,000 digits",
             (
@@ -43,10 +50,51 @@ fn contracts_past_a_limit(rt: HostRuntime) -> Result<(), Fail> {
             ),
             b"contract line 5 Magnitude\n",
         ),
+        (
+            "a first life whose name has 33 bytes",
+            (
+                b"interest 1/1\nlife ",
+                b"x",
+                33,
+                b" m 60\nlife y m 60\nlife z m 60\npay 1 ad[y]\n",
+            ),
+            b"contract line 2 Magnitude\n",
+        ),
+        (
+            "thirteen lives",
+            (TWELVE_LIVES, b"life m m 60\n", 1, b"pay 1 ad[a]\n"),
+            b"contract line 14 Magnitude\n",
+        ),
+        (
+            "65 pays",
+            (THREE_LIVES, b"pay 1 ad[x]\n", 65, b""),
+            b"contract line 69 Magnitude\n",
+        ),
     ];
     for (case, pieces, text) in rows {
         let contract = bytes_of(alloc, pieces)?;
         assert_files(&rt, alloc, (case, "value"), (TABLES, &contract), (8, text))?;
+    }
+    Ok(())
+}
+
+// What `check` writes of an accepted contract is here the contract itself.
+#[test]
+fn contracts_at_a_limit(rt: HostRuntime) -> Result<(), Fail> {
+    let alloc = rt.alloc();
+    let rows: [(&str, Pieces<'_>); 2] = [
+        ("twelve lives", (TWELVE_LIVES, b"", 0, b"pay 1 ad[a]\n")),
+        ("64 pays", (THREE_LIVES, b"pay 1 ad[x]\n", 64, b"")),
+    ];
+    for (case, pieces) in rows {
+        let contract = bytes_of(alloc, pieces)?;
+        assert_files(
+            &rt,
+            alloc,
+            (case, "check"),
+            (TABLES, &contract),
+            (0, &contract),
+        )?;
     }
     Ok(())
 }
