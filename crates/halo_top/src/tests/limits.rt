@@ -1,5 +1,6 @@
 // Files past the limits, and files at them.
-use super::{CONTRACT, TABLES, assert_files};
+use super::{TABLES, assert_files, assert_run, roomy};
+use halo_io::MemShelf;
 use std::alloc::{AllocError, Global};
 use std::test::Fail;
 
@@ -102,13 +103,19 @@ fn contracts_at_a_limit(rt: HostRuntime) -> Result<(), Fail> {
 #[test]
 fn a_tables_file_of_one_byte_more(rt: HostRuntime) -> Result<(), Fail> {
     let alloc = rt.alloc();
-    let tables = vec![in alloc; b'\n'; TABLES_LIMIT + 1]?;
-    let answer: (u8, &[u8]) = (4, b"too long tables\n");
-    assert_files(
+    // The file is moved onto the shelf, so that there is one copy of it less.
+    let mut files = Vec::new(alloc);
+    files.push((
+        String::from_str(alloc, "T")?,
+        vec![in alloc; b'\n'; TABLES_LIMIT + 1]?,
+    ))?;
+    let mut shelf = MemShelf::new(files, Vec::new(alloc));
+    let mut sink = roomy(alloc)?;
+    assert_run(
         &rt,
         alloc,
         ("one byte more", "value"),
-        (&tables, CONTRACT),
-        answer,
+        (&mut shelf, &mut sink),
+        (4, b"too long tables\n"),
     )
 }
