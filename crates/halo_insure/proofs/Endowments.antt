@@ -26,7 +26,7 @@ use Rattle.halo_compile.proofs.Tasks.{group-lives}
 use Rattle.halo_insure.specs.Ending.{EnclosesEndowment}
 
 -- all of nobody survive
-survivors-of-nobody : (u n : ℕ) (lives : List PlainLife) → length lives ≡ n
+pub survivors-of-nobody : (u n : ℕ) (lives : List PlainLife) → length lives ≡ n
     → joint_survivors u (in_set (bits n 0)) lives ≡ 1
 survivors-of-nobody u n [] count = refl
 survivors-of-nobody u zero (x ∷ lives) count = absurd (omega (arith, count))
@@ -36,7 +36,7 @@ survivors-of-nobody u (suc n) (x ∷ lives) count =
     let rest = survivors-of-nobody u n lives (omega (arith, count)) in
     rw (r, q) (omega (arith, rest))
 
-size-of-nobody : (n : ℕ) → size_of (bits n 0) ≡ 0
+pub size-of-nobody : (n : ℕ) → size_of (bits n 0) ≡ 0
 size-of-nobody zero = refl
 size-of-nobody (suc n) = let q : 0 / 2 ≡ 0 = omega arith in let r : 0 % 2 ≡ 0 = omega arith in
     rw (r, q) (size-of-nobody n)
@@ -62,7 +62,7 @@ module _ (b : Basis) (n T t : ℕ) (count : length b.lives ≡ n) where
     abbrev life : PlainLife
     life = get_or b.lives first no_life
 
-    survivors-with : (u : ℕ) → joint_survivors u (in_set (bits n mask)) b.lives
+    pub survivors-with : (u : ℕ) → joint_survivors u (in_set (bits n mask)) b.lives
         ≡ joint_survivors u (in_set (bits n (mask - 2 ^ first))) b.lives * life.survivors u
     survivors-with u =
         let low : first < n = bit-below n mask first below there in
@@ -96,6 +96,20 @@ module _ (b : Basis) (n T t : ℕ) (count : length b.lives ≡ n) where
         wide : 3 * (t - T) + 2 * size_of (bits n (mask - 2 ^ first)) + 1 + 1 ≡ 3 * (t - T) + 2 * size_of (bits n mask)
         wide = omega (arith, size-with n mask first below there)
 
+-- of a life that has a row, no more survive later
+pub survivors-fall : (n : ℕ) (g : PlainGroup) → IsGroup n g → (t i : ℕ) → g.start ≤ t → i < n
+    → survivors_in g t i ≤ survivors_in g g.start i
+survivors-fall n g group t i from low =
+    let inside : i < length g.lives = omega (arith, low, group.count) in
+    let le = survivors_of-le (λ j. t) g.start (λ j. from) (λ j. true) (lives_of g.file g.lives)
+    (group-lives n g group) i in
+    omega (
+      arith,
+      le,
+      survivors-is g.file t (λ j. true) g.lives i inside,
+      started-is g.file g.start (λ j. true) g.lives i inside,
+    )
+
 -- the chance of a life to survive, told in its table alone, if it is alive that has a row
 pub life-survives : (n : ℕ) (g : PlainGroup) → IsGroup n g → (t i : ℕ) → g.start ≤ t → i < n
     → has_bit g.alive i ≡ nat_lt 0 (survivors_in g g.start i) → (r : Ends)
@@ -105,24 +119,12 @@ pub life-survives : (n : ℕ) (g : PlainGroup) → IsGroup n g → (t i : ℕ) �
 life-survives n g group t i from low alive r c =
     rw (life-is n g group i low) (by-case (nat_lt 0 (survivors_in g g.start i)) refl)
   where
-    fewer : survivors_in g t i ≤ survivors_in g g.start i
-    fewer =
-        let inside : i < length g.lives = omega (arith, low, group.count) in
-        let le = survivors_of-le (λ j. t) g.start (λ j. from) (λ j. true) (lives_of g.file g.lives)
-        (group-lives n g group) i in
-        omega (
-          arith,
-          le,
-          survivors-is g.file t (λ j. true) g.lives i inside,
-          started-is g.file g.start (λ j. true) g.lives i inside,
-        )
-
     by-case : (is : Bool) → nat_lt 0 (survivors_in g g.start i) ≡ is
         → EnclosesChance (survivors_in g t i) (survivors_in g g.start i) 1 r
     by-case true e = rw (alive ∙ e) at c
     by-case false e =
         let none : survivors_in g g.start i ≡ 0 = grind (arith, nat_tests, e) in
-        let later : survivors_in g t i ≡ 0 = omega (arith, none, fewer) in
+        let later : survivors_in g t i ≡ 0 = omega (arith, none, survivors-fall n g group t i from low) in
         rw (none, later) (record {
           encloses = record { low = omega (arith, ints); high = omega (arith, ints) };
           narrow = c.narrow;

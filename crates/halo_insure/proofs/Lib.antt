@@ -19,3 +19,7 @@ pub mod SomeLeave
 pub mod TreeTasks
 pub mod Endowments
 pub mod EndOfTerm
+pub mod WithoutLife
+pub mod Fallings
+pub mod LeavingYears
+pub mod HeldLeavings

@@ -70,7 +70,7 @@ module _ (part : ℤ → ℕ) (sized : (z : ℤ) (n : ℕ) → IsSized z n → p
   most-small zero k h = omega arith
   most-small (suc more) k h = omega (arith, year-small k (omega (arith, h)), most-small more (suc k) (omega (arith, h)))
 
-small-within : (i : Ends) (most years : ℕ) → years ≤ 201 → most ≤ years * (201 * 2 ^ 11 + 201 * 2 ^ 12)
+pub small-within : (i : Ends) (most years : ℕ) → years ≤ 201 → most ≤ years * (201 * 2 ^ 11 + 201 * 2 ^ 12)
     → pos 0 ≤ℤ i.lo → i.hi ≤ℤ pos (most * fine) → IsWithin i (pos 0) (pos (10 ^ 32))
 small-within i most years few h from bound =
     let m : most ≤ 10 ^ 14 = omega (arith, few, h) in

@@ -9,3 +9,4 @@ pub mod Along
 pub mod Events
 pub mod YearOfTask
 pub mod Ending
+pub mod OneLeaving

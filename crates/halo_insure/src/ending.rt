@@ -135,7 +135,7 @@ fn with_first<const N: usize, const M: usize, L: Ledger>(
 }
 
 // The first life of a set.
-fn first_of(set: u16) -> u8
+pub(crate) fn first_of(set: u16) -> u8
     requires { 0 < set }
     ensures within { has_bit set result ≡ true }
     ensures small { result < 16 }
@@ -144,7 +144,7 @@ fn first_of(set: u16) -> u8
 }
 
 // A set without one of its lives.
-fn without(set: u16, life: u8) -> u16
+pub(crate) fn without(set: u16, life: u8) -> u16
     requires few { life < 16 }
     requires within { has_bit set life ≡ true }
     ensures value { result ≡ set - 2 ^ life }

@@ -5,7 +5,8 @@
 //! comes after are discounted together. One pass from the horizon back gives the values of all sets
 //! of the lives that a body names at each time, and the value for some lives alive is the sum over
 //! the sets within them. On the end of a term only one year pays, so what falls on it takes no
-//! pass.
+//! pass; nor does what falls on the leaving of one life, where the lives of one year leave in the
+//! declared order.
 //!
 //! Where no life stands in a body twice, a value at one time goes along the tree of the body
 //! instead, if the tree can tell it: it needs no sums over sets of lives.
@@ -17,6 +18,7 @@ mod ending;
 mod events;
 pub mod laws;
 mod leavings;
+mod one_leaving;
 mod one_year;
 mod parts;
 mod pass;

@@ -1,10 +1,10 @@
 // What falls on one event of an insurance.
-ghost use Rattle.std.specs.Prelude.{◌≡◌, ◌+◌, ◌^◌, ◌<◌, ◌≤◌, false};
+ghost use Rattle.std.specs.Prelude.{◌≡◌, ◌+◌, ◌^◌, ◌<◌, ◌≤◌, false, true};
 ghost use Rattle.halo_interest.specs.declared.powers.TheConstants.{LAST_TIME};
 ghost use Rattle.halo_status.specs.declared.pay.Kind.TheVariants.{Insurance};
 ghost use Rattle.halo_sums.specs.Masks.{has_bit};
 ghost use Rattle.halo_life.specs.Lists.{nothing};
-ghost use Rattle.halo_model.specs.SetValue.{can_fall_on_life, can_fall_on_term};
+ghost use Rattle.halo_model.specs.SetValue.{can_fall_on_life, can_fall_on_term, leaving_of};
 ghost use Rattle.halo_compile.specs.ValidTask.{IsTask};
 ghost use Rattle.halo_compile.specs.OfTask.{pay_of_task};
 ghost use Rattle.halo_along.specs.Along.{products_along};
@@ -19,6 +19,7 @@ ghost use Rattle.halo_insure.specs.Parts.{EnclosesEnd, EnclosesLeaving};
 use crate::along::parts_go_along;
 use crate::ending::dues_on_end;
 use crate::events::Events;
+use crate::one_leaving::dues_on_leaving;
 use crate::pass::pass;
 use crate::value::worth_at;
 use halo_along::{TreeTask, on_life_along, on_term_along};
@@ -65,8 +66,30 @@ pub fn on_life<const N: usize, const M: usize, L: Ledger>(
     if parts_go_along(task) {
         return on_life_along(&TreeTask::of(task), life, steps);
     }
-    pass(task, Events::Leaving(life), work, steps);
+    dues_on_life(task, life, work, steps);
     worth_at_start(task, Events::Leaving(life), work)
+}
+
+// What is due on the leaving of a life for all sets of lives, at the start of the task's group: by
+// a pass over the years if all orders of the lives of one year are taken.
+fn dues_on_life<const N: usize, const M: usize, L: Ledger>(
+    task: &Task<N, M>,
+    life: u8,
+    work: &mut Work<M>,
+    steps: &mut Steps<L>,
+)
+    requires task { IsTask task.now }
+    requires insurance { task.now.pay.now.kind ≡ Insurance }
+    requires life { life < N }
+    requires falls { can_fall_on_life (pay_of_task task.now) life ≡ true }
+    ensures values { HoldDuesOn task.now (leaving_of life) task.now.group.now.start work.new }
+    ensures cost { steps.new ≤ steps.old + products_of_pass task.now }
+{
+    if task.group.is_even() {
+        pass(task, Events::Leaving(life), work, steps);
+    } else {
+        dues_on_leaving(task, life, work, steps);
+    }
 }
 
 /// What of the value of an insurance of 1 falls on the end of a term of `n` years: as `on_life`,

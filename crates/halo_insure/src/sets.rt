@@ -1,5 +1,5 @@
 // A year back for the sets of named lives.
-ghost use Rattle.std.specs.Prelude.{◌≡◌, ◌≢◌, ℕ, ◌+◌, ◌*◌, ◌<◌, ◌≤◌, ◌↔◌, IsTrue, cond, true, pos};
+ghost use Rattle.std.specs.Prelude.{◌≡◌, ◌≢◌, ℕ, ◌+◌, ◌*◌, ◌<◌, ◌≤◌, ◌↔◌, IsTrue, cond, false, true, pos};
 ghost use Rattle.halo_num.specs.Ends.{IsSized, IsWithin, fine};
 ghost use Rattle.halo_model.specs.Backward.{above_zero, below_zero};
 ghost use Rattle.halo_poly.specs.Poly.{coefficient_at};
@@ -43,11 +43,14 @@ fn clear<const M: usize>(work: &mut Work<M>, set: u16)
     work.put(set, Ival::exact(0), Ival::exact(0));
 }
 
-/// Makes the values of all sets within `named` exactly 0.
+/// Makes the values of all sets within `named` exactly 0, and leaves those of all others.
 pub(crate) fn clear_all<const M: usize>(work: &mut Work<M>, named: u16)
     requires { named < M }
-    ensures { (mask : ℕ) → is_within mask named ≡ true →
+    ensures cleared { (mask : ℕ) → is_within mask named ≡ true →
         (entry work.new.plus mask ≡ nothing) × (entry work.new.minus mask ≡ nothing) }
+    ensures others { (mask : ℕ) → is_within mask named ≡ false →
+        (entry work.new.plus mask ≡ entry work.old.plus mask)
+        × (entry work.new.minus mask ≡ entry work.old.minus mask) }
 {
     clear(work, 0);
     let mut set = 0;

@@ -31,7 +31,8 @@ returns-then-n-start-clause-values g c =
       | then-n-start-via-else-n-start+then-task-n w ↦ λ later. w.if-task-n.true
     ] in
     no-dues task c.requires.task c.start-start.ensures.group c.args.n past c.clear_all.new.work
-    (λ mask each. c.clear_all.ensures mask (named-within c.lives-named.result body c.lives-named.ensures mask each))
+    (λ mask each. c.clear_all.ensures.cleared mask
+    (named-within c.lives-named.result body c.lives-named.ensures mask each))
 
 pub pay_ends-requires : goal.pay_ends-requires
 pay_ends-requires g c =

@@ -20,5 +20,6 @@ returns g c = record {
       let body = (pay_of task.pay.now).body in
       none-held (insured_basis task)
       (pay_of_task task) all_events g.row.N t c.clear_all.new.work (rw (← c.requires.task.horizon_is) past)
-      (λ mask below each. c.clear_all.ensures mask (named-within c.lives.result body c.lives.ensures mask each));
+      (λ mask below each. c.clear_all.ensures.cleared mask
+      (named-within c.lives.result body c.lives.ensures mask each));
 }

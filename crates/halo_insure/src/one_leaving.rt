@@ -1,0 +1,240 @@
+// What falls on the leaving of one life of an insurance, for all sets of lives, without a pass over
+// the years, where the lives of one year leave in the declared order: for each year a product for
+// each set tells the chance that the life leaves in it and the others of the set are there then.
+ghost use Rattle.std.specs.Prelude.{◌≡◌, ◌≢◌, Bool, ℕ, suc, ◌+◌, ◌-◌, ◌*◌, ◌^◌, ◌<◌, ◌≤◌, cond, false, nat_lt, pos, true};
+ghost use Rattle.halo_interest.specs.declared.powers.TheConstants.{LAST_TIME};
+ghost use Rattle.halo_num.specs.Ends.{IsSized, IsWithin, fine};
+ghost use Rattle.halo_sums.specs.Masks.{has_bit};
+ghost use Rattle.halo_sums.specs.Within.{is_within};
+ghost use Rattle.halo_status.specs.declared.pay.Kind.TheVariants.{Insurance};
+ghost use Rattle.halo_contract.specs.declared.ties.Ties.TheVariants.{Declared};
+ghost use Rattle.halo_model.specs.Backward.{above_zero, below_zero};
+ghost use Rattle.halo_model.specs.Basis.{Basis};
+ghost use Rattle.halo_model.specs.FromTables.{lives_of};
+ghost use Rattle.halo_model.specs.SetValue.{can_fall_on_life, leaving_of};
+ghost use Rattle.halo_poly.specs.Poly.{coefficient_at};
+ghost use Rattle.halo_life.specs.Lists.{entry};
+ghost use Rattle.halo_life.specs.PlainGroup.{survivors_in};
+ghost use Rattle.halo_life.specs.Total.{AreModestAt};
+ghost use Rattle.halo_life.specs.YearOfLives.{HasSmaller};
+ghost use Rattle.halo_compile.specs.NamedSets.{named_of_task};
+ghost use Rattle.halo_compile.specs.OfTask.{pay_of_task};
+ghost use Rattle.halo_compile.specs.ValidTask.{IsTask};
+ghost use Rattle.halo_along.specs.OfTask.{tree_task_of};
+ghost use Rattle.halo_along.specs.Years.{IsDiscount};
+ghost use Rattle.halo_insure.specs.OfTask.{HoldDuesOn};
+ghost use Rattle.halo_insure.specs.OneLeaving.{EnclosesFalling, HoldFallings, HoldLeavings, IsPaidMore, IsPaidOnLeaving};
+
+use crate::due::{due_above, due_below};
+use crate::ending::{first_of, without};
+use crate::one_year::payments;
+use crate::sets::{Year, clear_all};
+use crate::step::year_of;
+use halo_compile::{MOST_PAID, Task};
+use halo_interest::LAST_TIME;
+use halo_life::{Group, Work};
+use halo_num::{Ival, ONE_IN_FINE_UNITS, Steps};
+use halo_sums::{has_bit, next_within};
+use std::sync::ledger::Ledger;
+
+/// What is due on the leaving of a life for all sets of lives, at the start of the task's group,
+/// where the lives of one year leave in the declared order.
+///
+/// For each year it makes at most two products, and one for each set of the lives that the body
+/// names.
+pub(crate) fn dues_on_leaving<const N: usize, const M: usize, L: Ledger>(
+    task: &Task<N, M>,
+    life: u8,
+    work: &mut Work<M>,
+    steps: &mut Steps<L>,
+)
+    requires task { IsTask task.now }
+    requires insurance { task.now.pay.now.kind ≡ Insurance }
+    requires life { life < N }
+    requires falls { can_fall_on_life (pay_of_task task.now) life ≡ true }
+    requires in_order { task.now.group.now.ties ≡ Declared }
+    ensures values { HoldDuesOn task.now (leaving_of life) task.now.group.now.start work.new }
+    ensures cost { steps.new ≤ steps.old + task.now.horizon * (2 + 2 ^ named_of_task task.now) }
+{
+    // The proof sees here that there are few lives.
+    let _start = task.group.start();
+    let named = task.pay.body.lives();
+    clear_all(work, named);
+    let mut discount = Ival::exact(ONE_IN_FINE_UNITS);
+    for year in task.group.start()..task.horizon {
+        discount = discount.mul(task.interest.year(year), steps);
+        add_year(task, life, year, discount, work, steps);
+    }
+    clear_all(work, without(named, life));
+}
+
+// What is due on the leaving of the life in a year more, by the discount factor of the years to its
+// end: for the sets with the life. The entries of the others are room to work.
+fn add_year<const N: usize, const M: usize, L: Ledger>(
+    task: &Task<N, M>,
+    life: u8,
+    k: u16,
+    discount: Ival,
+    work: &mut Work<M>,
+    steps: &mut Steps<L>,
+)
+    requires task { IsTask task.now }
+    requires insurance { task.now.pay.now.kind ≡ Insurance }
+    requires life { life < N }
+    requires falls { can_fall_on_life (pay_of_task task.now) life ≡ true }
+    requires in_order { task.now.group.now.ties ≡ Declared }
+    requires from { task.now.group.now.start ≤ k }
+    requires before { k < task.now.horizon }
+    requires discount { IsDiscount (tree_task_of task.now) (k + 1) discount }
+    requires held { HoldLeavings task.now life k work.old }
+    ensures held { HoldLeavings task.now life (k + 1) work.new }
+    ensures cost { steps.new ≤ steps.old + 1 + 2 ^ named_of_task task.now }
+{
+    let _start = task.group.start();
+    let year = year_of(task, k, false);
+    if year.pays.payment == 0 {
+        return;
+    }
+    fallings(task, life, k, discount, work, steps);
+    pay_leavings(work, &year, life, task.pay.body.lives());
+}
+
+// For each set of others than the life, in `plus`: the value at the start of the task's group of 1
+// paid at the end of year `k` if the life leaves in it and all of the set are there then. The
+// entries of the sets with the life stay.
+fn fallings<const N: usize, const M: usize, L: Ledger>(
+    task: &Task<N, M>,
+    life: u8,
+    k: u16,
+    discount: Ival,
+    work: &mut Work<M>,
+    steps: &mut Steps<L>,
+)
+    requires task { IsTask task.now }
+    requires life { life < N }
+    requires falls { can_fall_on_life (pay_of_task task.now) life ≡ true }
+    requires from { task.now.group.now.start ≤ k }
+    requires time { k < LAST_TIME }
+    requires discount { IsDiscount (tree_task_of task.now) (k + 1) discount }
+    ensures fallings { HoldFallings task.now life k work.new }
+    ensures others { (mask : ℕ) → has_bit mask life ≡ true →
+        (entry work.new.plus mask ≡ entry work.old.plus mask)
+        × (entry work.new.minus mask ≡ entry work.old.minus mask) }
+    ensures cost { steps.new ≤ steps.old + 1 + 2 ^ named_of_task task.now }
+{
+    let group = task.group.at(task.group.start());
+    // The proof sees here that the lives have rows.
+    let _start = group.start();
+    let others = without(task.pay.body.lives(), life);
+    let leave = group.leave(life, k, task.pay.causes);
+    work.put(0, discount.mul(leave, steps), Ival::exact(0));
+    let mut set = 0;
+    while set != others {
+        set = next_within(set, others);
+        let falling = with_first(&group, set, life, k, work, steps);
+        work.put(set, falling, Ival::exact(0));
+    }
+}
+
+// That value for a set by that of the set without its first life. All lives are alive at the time
+// of the group that have a row at their age then.
+fn with_first<const N: usize, const M: usize, L: Ledger>(
+    group: &Group<N>,
+    set: u16,
+    life: u8,
+    k: u16,
+    work: &Work<M>,
+    steps: &mut Steps<L>,
+) -> Ival
+    requires sets { M ≡ 2 ^ N }
+    requires some { 0 < set }
+    requires below { set < M }
+    requires life { has_bit set life ≡ false }
+    requires from { group.now.start ≤ k }
+    requires time { k < LAST_TIME }
+    requires living { (i : ℕ) → i < N →
+        has_bit group.now.alive i ≡ nat_lt 0 (survivors_in group.now group.now.start i) }
+    requires smaller { HasSmaller (λ part i. IsWithin i (pos 0) (pos fine)) set work.now.plus }
+    ensures falling { (b : Basis) (causes : ℕ → Bool)
+        → b.lives ≡ lives_of group.now.file group.now.lives
+        → HasSmaller (EnclosesFalling b causes N group.now.start life k) set work.now.plus
+        → EnclosesFalling b causes N group.now.start life k set result }
+    ensures cost { steps.new ≤ steps.old + 1 }
+{
+    // The proof sees here that the lives have rows.
+    let _start = group.start();
+    let first = first_of(set);
+    let others = work.plus(without(set, first));
+    others.mul(group.survive(first, time_looked_at(first, life, k)), steps)
+}
+
+// When life `i` is looked at where a life leaves in year `k`: at the end of the year those declared
+// before that life, at its start the others.
+fn time_looked_at(i: u8, life: u8, k: u16) -> u16
+    requires { k < LAST_TIME }
+    ensures time { result ≡ cond (nat_lt i life) (suc k) k }
+    ensures from { k ≤ result }
+    ensures small { result ≤ LAST_TIME }
+{
+    if i < life { k + 1 } else { k }
+}
+
+// For each set within `named` with the life: what is paid on its leaving in the year if the others
+// of the set are there then, as the entry of `plus` without the life says, is added.
+fn pay_leavings<const M: usize>(work: &mut Work<M>, year: &Year<M>, life: u8, named: u16)
+    requires below { named < M }
+    requires life { life < 16 }
+    requires payment { year.now.pays.payment ≤ MOST_PAID }
+    requires here { (mask : ℕ) → is_within mask named ≡ true →
+        IsSized (coefficient_at year.now.here.now mask) 4096 }
+    requires chances { (mask : ℕ) → is_within mask named ≡ true → has_bit mask life ≡ true →
+        IsWithin (entry work.old.plus (mask - 2 ^ life)) (pos 0) (pos fine) }
+    requires modest { (mask : ℕ) → is_within mask named ≡ true → has_bit mask life ≡ true →
+        AreModestAt mask work.old }
+    ensures paid { (mask : ℕ) → is_within mask named ≡ true → has_bit mask life ≡ true →
+        IsPaidOnLeaving year.now life mask work.old work.new }
+{
+    let mut set = 0;
+    while set != named {
+        set = next_within(set, named);
+        pay_leaving(work, year, life, set);
+    }
+}
+
+// So it is for one set, by the parts of its coefficient.
+fn pay_leaving<const M: usize>(work: &mut Work<M>, year: &Year<M>, life: u8, set: u16)
+    requires set { set < M }
+    requires life { life < 16 }
+    requires payment { year.now.pays.payment ≤ MOST_PAID }
+    requires here { IsSized (coefficient_at year.now.here.now set) 4096 }
+    requires chance { has_bit set life ≡ true →
+        IsWithin (entry work.old.plus (set - 2 ^ life)) (pos 0) (pos fine) }
+    requires modest { has_bit set life ≡ true → AreModestAt set work.old }
+    ensures paid { has_bit set life ≡ true →
+        IsPaidOnLeaving year.now life set work.old work.new }
+    ensures without { has_bit set life ≡ false → work.new ≡ work.old }
+    ensures others { (mask : ℕ) → mask ≢ set →
+        (entry work.new.plus mask ≡ entry work.old.plus mask)
+        × (entry work.new.minus mask ≡ entry work.old.minus mask) }
+{
+    if !has_bit(set, life) {
+        return;
+    }
+    let falling = work.plus(without(set, life));
+    let here = year.here.coefficient(set);
+    // No end of a term counts, so that of the next year is not asked for.
+    let above = due_above(year.pays, here, here).on_leaving;
+    let below = due_below(year.pays, here, here).on_leaving;
+    let plus = with_payments(work.plus(set), falling, above);
+    let minus = with_payments(work.minus(set), falling, below);
+    work.put(set, plus, minus);
+}
+
+// So many payments with a chance more.
+fn with_payments(before: Ival, chance: Ival, count: u32) -> Ival
+    requires before { IsWithin before (pos 0) (pos (10 ^ 32)) }
+    requires chance { IsWithin chance (pos 0) (pos fine) }
+    ensures { IsPaidMore count chance before result }
+{
+    before.add(payments(chance, count))
+}
