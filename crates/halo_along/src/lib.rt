@@ -14,20 +14,12 @@ mod annuity;
 mod bounds;
 mod by_kind;
 mod contingent;
-#[cfg(test)]
-mod contingent_tests;
 mod ending;
 mod insurance;
-#[cfg(test)]
-mod insured_tests;
 mod insured_years;
 mod leaving;
 mod lives;
 mod parts;
-#[cfg(test)]
-mod test_bodies;
-#[cfg(test)]
-mod tests;
 mod tree_task;
 mod years;
 

@@ -17,8 +17,6 @@ mod one_set;
 mod sets;
 mod step;
 mod term;
-#[cfg(test)]
-mod tests;
 mod value;
 
 pub use annuities::{annuity, annuity_all};

@@ -24,8 +24,6 @@ mod parts;
 mod pass;
 mod sets;
 mod step;
-#[cfg(test)]
-mod tests;
 mod value;
 mod whole;
 

@@ -9,8 +9,6 @@ mod form;
 pub mod laws;
 mod pays;
 mod sample;
-#[cfg(test)]
-mod tests;
 mod text;
 mod value;
 

@@ -17,6 +17,3 @@ mod value;
 
 pub use no_words::NoWords;
 pub use program::{run, run_words};
-
-#[cfg(test)]
-mod tests;

@@ -22,10 +22,6 @@ mod pass;
 mod pays;
 mod reading;
 mod terms;
-#[cfg(test)]
-mod tests;
-#[cfg(test)]
-mod twelve_tests;
 mod value;
 
 pub use forms::compiled_forms;

@@ -1,5 +1,0 @@
--- The ledger of the call: the page that the blank opens.
-use Rattle.halo_along.proofs.contingent_tests.worked.Given as goal
-
-abbrev pub ghosts-assert_worked : goal.ghosts-assert_worked
-ghosts-assert_worked g a = record { name = a.blank.name; parts = a.blank.parts }
