@@ -16,7 +16,7 @@ pub use columns::columns_text;
 pub use explain::explain_text;
 pub use form::form_text;
 pub use halo_lines::{LARGEST_PRINTED, Part, ValueReport};
-/// There was not enough memory.
 pub use sample::sample_text;
+/// There was not enough memory.
 pub use std::alloc::AllocError as Memory;
 pub use value::value_text;
