@@ -2,7 +2,7 @@ pub mod AmountOne
 pub mod Counting
 pub mod OnePaid
 pub mod Payments
-pub mod Survivals
+pub mod LivesAtTime
 pub mod Value
 pub mod Insured
 pub mod InsuredWhole

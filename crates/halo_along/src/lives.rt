@@ -7,9 +7,9 @@ use halo_interest::LAST_TIME;
 use halo_life::{Group, MOST_LIVES};
 use halo_num::Ival;
 
-// The probabilities that the lives are alive at time `t`, each by the number of its life: exactly 0
-// for a life that is not alive at the group's time.
-pub(crate) fn survivals<const N: usize>(group: &Group<N>, t: u16) -> [Ival; MOST_LIVES]
+/// The probabilities that the lives are alive at time `t`, each by the number of its life and at
+/// most 1 fine unit wide: exactly 0 for a life that is not alive at the group's time.
+pub fn survivals<const N: usize>(group: &Group<N>, t: u16) -> [Ival; MOST_LIVES]
     requires from { group.now.start ≤ t }
     requires time { t ≤ LAST_TIME }
     ensures chances { EachIsChance MOST_LIVES result }

@@ -36,7 +36,8 @@ use Rattle.halo_compile.specs.declared.task.Task.{Task}
 use Rattle.halo_insure.specs.declared.due.Due.{Due}
 use Rattle.halo_insure.specs.declared.sets.Year.{Year}
 use Rattle.halo_insure.specs.Dues.{due_of, ends_count}
-use Rattle.halo_insure.specs.Ending.{ArePayments, EnclosesEndowment, HoldEndowments, IsPaidAtEnd}
+use Rattle.halo_endowment.specs.Endowment.{EnclosesEndowment}
+use Rattle.halo_insure.specs.Ending.{ArePayments, HoldEndowments, IsPaidAtEnd}
 use Rattle.halo_insure.specs.Leavings.{counted_numbers, counts, set_leavings, set_survivors}
 use Rattle.halo_insure.specs.OfTask.{HoldDuesOn, insured_basis}
 use Rattle.halo_insure.specs.OneSet.{most_due, worth_of_dues}

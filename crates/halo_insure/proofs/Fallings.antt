@@ -27,7 +27,7 @@ use Rattle.halo_life.proofs.Within.{bit-below, inside}
 use Rattle.halo_life.proofs.YearChances.{group-splits, life-is}
 use Rattle.halo_insure.specs.Leavings.{counted_numbers, set_leavings}
 use Rattle.halo_insure.specs.OneLeaving.{EnclosesFalling, life_of_basis, there_when_leaving}
-use Rattle.halo_insure.proofs.Endowments.{size-of-nobody, survivors-fall, survivors-of-nobody, survivors-with}
+use Rattle.halo_endowment.proofs.EndowmentsOfSets.{size-of-nobody, survivors-fall, survivors-of-nobody, survivors-with}
 
 -- in the declared order a life has its number as its rank
 rank-from : (count first i j : ℕ) → i < count → j ≡ first + i → rank_in (numbers_from first count) j ≡ i

@@ -38,7 +38,7 @@ use Rattle.halo_insure.specs.YearOfTask.{IsYearOf}
 use Rattle.halo_insure.specs.YearSets.{next_coefficient}
 use Rattle.halo_insure.proofs.DueOfSet.{due-of-form}
 use Rattle.halo_insure.proofs.EndOfTerm.{no-end}
-use Rattle.halo_insure.proofs.Endowments.{survivors-with}
+use Rattle.halo_endowment.proofs.EndowmentsOfSets.{survivors-with}
 use Rattle.halo_insure.proofs.Fallings.{leavings-with, leavings-without}
 use Rattle.halo_insure.proofs.LeavingYears.{paid-later, same-later}
 use Rattle.halo_insure.proofs.OneSet.{worthless}

@@ -17,7 +17,6 @@ pub mod PartTotals
 pub mod Passes
 pub mod SomeLeave
 pub mod TreeTasks
-pub mod Endowments
 pub mod EndOfTerm
 pub mod WithoutLife
 pub mod Fallings

@@ -1,33 +1,17 @@
 -- What falls on the end of a term for a set of lives, by its pure endowment.
-use Rattle.std.specs.Prelude.{ℕ, ◌+◌, ◌-◌, ◌*◌, ◌^◌, ◌<◌, ℤ, pos, ◌≤ℤ◌}
-use Rattle.halo_sums.specs.Masks.{bits}
-use Rattle.halo_sums.specs.Sets.{in_set, size_of}
-use Rattle.halo_sums.specs.Sums.{numbers_from, product_over}
-use Rattle.halo_num.specs.Chance.{EnclosesChance}
+use Rattle.std.specs.Prelude.{ℕ, ◌*◌, ◌^◌, ◌<◌, ℤ, pos, ◌≤ℤ◌}
 use Rattle.halo_num.specs.Ends.{Ends, HasWidth, fine}
 use Rattle.halo_num.specs.Enclosure.{Encloses}
-use Rattle.halo_model.specs.Basis.{Basis}
-use Rattle.halo_model.specs.Outcome.{joint_survivors}
 use Rattle.halo_poly.specs.Poly.{coefficient_at}
 use Rattle.halo_life.specs.Lists.{Lists, entry}
 use Rattle.halo_compile.specs.NamedSets.{AreNamed}
 use Rattle.halo_compile.specs.OfTask.{pay_of_task}
 use Rattle.halo_compile.specs.declared.task.Task.{Task}
+use Rattle.halo_endowment.specs.Endowment.{EnclosesEndowment}
 use Rattle.halo_insure.specs.declared.sets.Year.{Year}
 use Rattle.halo_insure.specs.Dues.{due_by}
 use Rattle.halo_insure.specs.OfTask.{insured_basis}
 use Rattle.halo_insure.specs.YearSets.{next_coefficient}
-
--- i encloses the pure endowment of a set of n lives, all alive at T: the value at T of 1 paid at
--- time t if all of them are alive then. It is at most 3 wide for each year and 2 for each life.
--- ₙE_x = v^n · ₙp_x
-abbrev pub EnclosesEndowment : Basis → ℕ → ℕ → ℕ → ℕ → Ends → Type 0
-EnclosesEndowment b n T t mask i = EnclosesChance
-    (product_over (numbers_from T (t - T)) b.q * joint_survivors t (in_set (bits n mask)) b.lives)
-    (product_over (numbers_from T (t - T)) (λ k. b.p k + b.q k)
-    * joint_survivors T (in_set (bits n mask)) b.lives)
-    (3 * (t - T) + 2 * size_of (bits n mask))
-    i
 
 -- the entries of `plus` of the sets of named lives enclose their pure endowments from the time of
 -- the task's group to time t

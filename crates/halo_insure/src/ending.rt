@@ -1,34 +1,29 @@
 // What falls on the end of a term of an insurance, for all sets of lives, without a pass over the
 // years: only the last year of the term pays, so the pure endowments of the sets tell it.
-ghost use Rattle.std.specs.Prelude.{◌≡◌, ◌≢◌, ℕ, ◌+◌, ◌-◌, ◌^◌, ◌<◌, ◌≤◌, nat_lt, pos, true};
+ghost use Rattle.std.specs.Prelude.{◌≡◌, ◌≢◌, ℕ, ◌+◌, ◌-◌, ◌^◌, ◌<◌, ◌≤◌, pos, true};
 ghost use Rattle.halo_interest.specs.declared.powers.TheConstants.{LAST_TIME};
 ghost use Rattle.halo_num.specs.Ends.{IsSized, IsWithin, fine};
-ghost use Rattle.halo_sums.specs.Masks.{has_bit};
 ghost use Rattle.halo_sums.specs.Within.{is_within};
 ghost use Rattle.halo_status.specs.declared.pay.Kind.TheVariants.{Insurance};
 ghost use Rattle.halo_model.specs.Backward.{above_zero, below_zero};
-ghost use Rattle.halo_model.specs.Basis.{Basis};
-ghost use Rattle.halo_model.specs.FromTables.{lives_of};
 ghost use Rattle.halo_model.specs.SetValue.{end_of_term};
 ghost use Rattle.halo_poly.specs.Poly.{coefficient_at};
 ghost use Rattle.halo_life.specs.Lists.{entry};
-ghost use Rattle.halo_life.specs.PlainGroup.{survivors_in};
-ghost use Rattle.halo_life.specs.YearOfLives.{HasSmaller};
 ghost use Rattle.halo_compile.specs.NamedSets.{named_of_task};
 ghost use Rattle.halo_compile.specs.ValidTask.{IsTask};
 ghost use Rattle.halo_along.specs.OfTask.{tree_task_of};
 ghost use Rattle.halo_along.specs.Years.{IsDiscount};
-ghost use Rattle.halo_insure.specs.Ending.{EnclosesEndowment, HoldEndowments, IsPaidAtEnd};
+ghost use Rattle.halo_insure.specs.Ending.{HoldEndowments, IsPaidAtEnd};
 ghost use Rattle.halo_insure.specs.OfTask.{HoldDuesOn};
 
 use crate::due::{due_above, due_below};
 use crate::events::{Events, end_counts};
-use crate::one_year::payments;
 use crate::sets::{Year, clear_all, next_coefficient};
 use crate::step::year_of;
 use halo_compile::{MOST_PAID, Task};
+use halo_endowment::{endowments, payments};
 use halo_interest::LAST_TIME;
-use halo_life::{Group, Work};
+use halo_life::Work;
 use halo_num::{Ival, ONE_IN_FINE_UNITS, Steps};
 use halo_sums::next_within;
 use std::sync::ledger::Ledger;
@@ -56,14 +51,14 @@ pub(crate) fn dues_on_end<const N: usize, const M: usize, L: Ledger>(
         clear_all(work, named);
         return;
     }
-    endowments(task, n, work, steps);
+    endowments_to(task, n, work, steps);
     let ends = end_counts(task.pay, Events::End(n), n);
     pay_ends(work, &year_of(task, n - 1, ends), named);
 }
 
 // The pure endowment of each set of named lives in `plus`: the value at the start of the task's
 // group of 1 paid at time `t` if all of the set are alive then.
-fn endowments<const N: usize, const M: usize, L: Ledger>(
+fn endowments_to<const N: usize, const M: usize, L: Ledger>(
     task: &Task<N, M>,
     t: u16,
     work: &mut Work<M>,
@@ -77,14 +72,8 @@ fn endowments<const N: usize, const M: usize, L: Ledger>(
         steps.old + (t - task.now.group.now.start) + 2 ^ named_of_task task.now }
 {
     let group = task.group.at(task.group.start());
-    let named = task.pay.body.lives();
-    work.put(0, discount_to(task, t, steps), Ival::exact(0));
-    let mut set = 0;
-    while set != named {
-        set = next_within(set, named);
-        let endowment = with_first(&group, set, t, work, steps);
-        work.put(set, endowment, Ival::exact(0));
-    }
+    let discount = discount_to(task, t, steps);
+    endowments(&group, task.pay.body.lives(), t, discount, work, steps);
 }
 
 // The discount factor of the years from the start of the task's group to time `t`.
@@ -103,54 +92,6 @@ fn discount_to<const N: usize, const M: usize, L: Ledger>(
         discount = discount.mul(task.interest.year(year), steps);
     }
     discount
-}
-
-// The pure endowment of a set by that of the set without its first life. All lives are alive at the
-// time of the group that have a row at their age then.
-fn with_first<const N: usize, const M: usize, L: Ledger>(
-    group: &Group<N>,
-    set: u16,
-    t: u16,
-    work: &Work<M>,
-    steps: &mut Steps<L>,
-) -> Ival
-    requires sets { M ≡ 2 ^ N }
-    requires some { 0 < set }
-    requires below { set < M }
-    requires from { group.now.start ≤ t }
-    requires time { t ≤ LAST_TIME }
-    requires living { (i : ℕ) → i < N →
-        has_bit group.now.alive i ≡ nat_lt 0 (survivors_in group.now group.now.start i) }
-    requires smaller { HasSmaller (λ part i. IsWithin i (pos 0) (pos fine)) set work.now.plus }
-    ensures endowment { (b : Basis) → b.lives ≡ lives_of group.now.file group.now.lives →
-        HasSmaller (EnclosesEndowment b N group.now.start t) set work.now.plus →
-        EnclosesEndowment b N group.now.start t set result }
-    ensures cost { steps.new ≤ steps.old + 1 }
-{
-    // The proof sees here that the lives have rows.
-    let _start = group.start();
-    let first = first_of(set);
-    let others = work.plus(without(set, first));
-    others.mul(group.survive(first, t), steps)
-}
-
-// The first life of a set.
-pub(crate) fn first_of(set: u16) -> u8
-    requires { 0 < set }
-    ensures within { has_bit set result ≡ true }
-    ensures small { result < 16 }
-{
-    set.trailing_zeros() as u8
-}
-
-// A set without one of its lives.
-pub(crate) fn without(set: u16, life: u8) -> u16
-    requires few { life < 16 }
-    requires within { has_bit set life ≡ true }
-    ensures value { result ≡ set - 2 ^ life }
-    ensures smaller { result < set }
-{
-    set - (1 << life)
 }
 
 // For each set within `named`, by its pure endowment in `plus`, what is paid at the end of the year

@@ -26,11 +26,10 @@ ghost use Rattle.halo_insure.specs.OfTask.{HoldDuesOn};
 ghost use Rattle.halo_insure.specs.OneLeaving.{EnclosesFalling, HoldFallings, HoldLeavings, IsPaidMore, IsPaidOnLeaving};
 
 use crate::due::{due_above, due_below};
-use crate::ending::{first_of, without};
-use crate::one_year::payments;
 use crate::sets::{Year, clear_all};
 use crate::step::year_of;
 use halo_compile::{MOST_PAID, Task};
+use halo_endowment::{first_of, payments, without};
 use halo_interest::LAST_TIME;
 use halo_life::{Group, Work};
 use halo_num::{Ival, ONE_IN_FINE_UNITS, Steps};

@@ -5,6 +5,7 @@ ghost use Rattle.halo_num.specs.Enclosure.{Encloses};
 ghost use Rattle.halo_insure.specs.OneSet.{GoesBack};
 
 use crate::due::Due;
+use halo_endowment::payments;
 use halo_num::{Ival, Steps};
 use std::sync::ledger::Ledger;
 
@@ -15,22 +16,6 @@ pub(crate) struct Chances {
     pub(crate) leaving: Ival,
     /// That all of them survive the year.
     pub(crate) survival: Ival,
-}
-
-/// So many payments with a chance. For none there is nothing to multiply.
-pub(crate) fn payments(chance: Ival, count: u32) -> Ival
-    requires chance { IsWithin chance (pos 0) (pos fine) }
-    ensures from { pos 0 ≤ℤ result.lo }
-    ensures bound { result.hi ≤ℤ pos (count * fine) }
-    ensures small { result.hi ≤ℤ pos (2 ^ 32 * fine) }
-    ensures narrow { (w : ℕ) → HasWidth chance w → HasWidth result (count * w) }
-    ensures encloses { (n d : ℕ) → Encloses chance (pos n) d → Encloses result (pos (count * n)) d }
-{
-    if count == 0 {
-        return Ival::exact(0);
-    }
-    let _lowest = chance.lo();
-    chance.scale(i64::from(count))
 }
 
 /// What is due at the end of a year, on a leaving and on the end of a term. In most years no term

@@ -1,6 +1,6 @@
 use Rattle.std.proofs.Common.{arith, add-one}
 use Rattle.halo_along.proofs.LookedAt.{looked-at-put, none-looked-at}
-use Rattle.halo_along.proofs.Survivals.{chance-put, no-chances}
+use Rattle.halo_along.proofs.LivesAtTime.{chance-put, no-chances}
 use Rattle.halo_along.proofs.leaving.looked_at.Goals as goal
 
 pub loop-i-init : goal.loop-i-init

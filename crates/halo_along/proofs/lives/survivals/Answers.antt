@@ -1,5 +1,5 @@
 use Rattle.std.proofs.Common.{arith}
-use Rattle.halo_along.proofs.Survivals.{chance-put, no-chances, no-survivals, survival-put}
+use Rattle.halo_along.proofs.LivesAtTime.{chance-put, no-chances, no-survivals, survival-put}
 use Rattle.halo_along.proofs.lives.survivals.Goals as goal
 
 pub loop-i-init : goal.loop-i-init

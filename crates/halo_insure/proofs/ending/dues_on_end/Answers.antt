@@ -54,7 +54,7 @@ pay_ends-requires g c =
               λ mask h. year.here_sized mask (inside mask h),
               (
                 λ mask h. year.next_sized mask (inside mask h),
-                λ mask h. (c.endowments.ensures.endowments mask (inside mask h)
+                λ mask h. (c.endowments_to.ensures.endowments mask (inside mask h)
                     (λ i there. named i (within-has mask c.lives-named.result h i there))).within,
               ),
             ),
@@ -75,5 +75,5 @@ returns-clause-values g c =
     (omega (arith, c.if-task-n.false, c.requires.some))
     c.year_of.result c.end_counts-ends.result c.year_of.ensures counted c.args.n last c.lives-named.result
     (named-within c.lives-named.result body c.lives-named.ensures)
-    c.endowments.new.work c.pay_ends.new.work c.endowments.ensures.endowments
+    c.endowments_to.new.work c.pay_ends.new.work c.endowments_to.ensures.endowments
     c.pay_ends.ensures.plus c.pay_ends.ensures.minus

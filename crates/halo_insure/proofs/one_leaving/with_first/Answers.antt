@@ -6,7 +6,7 @@ use Rattle.halo_life.proofs.OneSet.{chance-without}
 use Rattle.halo_life.proofs.Within.{bit-below}
 use Rattle.halo_life.proofs.YearChances.{length-lives}
 use Rattle.halo_insure.specs.OneLeaving.{EnclosesFalling, life_of_basis}
-use Rattle.halo_insure.proofs.Endowments.{life-survives}
+use Rattle.halo_endowment.proofs.EndowmentsOfSets.{life-survives}
 use Rattle.halo_insure.proofs.Fallings.{falling-with}
 use Rattle.halo_insure.proofs.one_leaving.with_first.Goals as goal
 

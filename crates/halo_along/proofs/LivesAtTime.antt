@@ -9,7 +9,7 @@ use Rattle.halo_num.specs.Chance.{EnclosesChance}
 use Rattle.halo_model.specs.FromTables.{lives_of}
 use Rattle.halo_model.specs.Independent.{started_of, survivors_of}
 use Rattle.halo_life.specs.PlainGroup.{PlainGroup}
-use Rattle.halo_chance.specs.Enclosed.{EachIsChance}
+use Rattle.halo_chance.specs.Enclosed.{EachIsChance, entry_at}
 use Rattle.halo_along.specs.Lives.{EncloseSurvival}
 
 -- so many times 0 are chances
@@ -55,3 +55,10 @@ module _ (group : PlainGroup) (t : ℕ) where
       let other : i ≢ count = omega arith in rw get_or-set_other (before i earlier))
       (λ (from : count ≤ i). let here : i ≡ count = omega arith in rw (here, get_or-set_same) is)
       (cases_lt i count)
+
+  -- each of them is enclosed
+  pub survival-each : (count : ℕ) (entries : List Ends) → EncloseSurvival group t count entries → (i : ℕ) → i < count
+      → EnclosesChance (survivors_of (λ j. t) (has_bit group.alive) (lives_of group.file group.lives) i)
+      (started_of group.start (has_bit group.alive) (lives_of group.file group.lives) i) 1 (entry_at entries i)
+  unfolding EncloseSurvival
+  survival-each count entries are i below = are i below

@@ -1,6 +1,6 @@
 use Rattle.std.proofs.Common.{refl, w16}
 use Rattle.std.proofs.lemmas.Nat.Bits.{bit_at-trailing_zeros}
-use Rattle.halo_insure.proofs.ending.first_of.Goals as goal
+use Rattle.halo_endowment.proofs.sets.first_of.Goals as goal
 
 pub returns-clause-within : goal.returns-clause-within
 returns-clause-within c =

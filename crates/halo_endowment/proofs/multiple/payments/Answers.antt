@@ -1,7 +1,7 @@
 use Rattle.std.proofs.Common.{◌≡◌, rules, arith, pos, to_z, of_z, to_z-of_z, w64}
 use Rattle.std.proofs.lemmas.Int.{ints}
-use Rattle.halo_insure.proofs.Payments.{multiple-bound, multiple-encloses, multiple-narrow, sized}
-use Rattle.halo_insure.proofs.one_year.payments.Goals as goal
+use Rattle.halo_endowment.proofs.Multiples.{multiple-bound, multiple-encloses, multiple-narrow, sized}
+use Rattle.halo_endowment.proofs.multiple.payments.Goals as goal
 
 pub returns-clause-bound : goal.returns-clause-bound
 returns-clause-bound c =

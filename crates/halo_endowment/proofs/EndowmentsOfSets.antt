@@ -1,5 +1,6 @@
 -- Pure endowments of sets of lives: of nobody, and of a set by that of the set without one of its lives.
-use Rattle.std.proofs.Common.{◌≡◌, ℕ, zero, suc, ◌+◌, ◌*◌, ◌-◌, ◌/◌, ◌%◌, ◌^◌, ◌<◌, ◌≤◌, arith, refl, ap, sym, ◌∙◌, List, [], ◌∷◌, length, get_or, Bool, true, false, nat_lt}
+use Rattle.std.proofs.Common.{◌≡◌, ◌≢◌, ℕ, zero, suc, ◌+◌, ◌*◌, ◌-◌, ◌/◌, ◌%◌, ◌^◌, ◌<◌, ◌≤◌, arith, refl, ap, sym, ◌∙◌, List, [], ◌∷◌, length, get_or, Bool, true, false, nat_lt, ⊎_elim}
+use Rattle.std.proofs.lemmas.Bool.{cases_lt}
 use Rattle.std.proofs.lemmas.Bool.Decides.{nat_tests}
 use Rattle.std.proofs.lemmas.Int.{ints}
 use Rattle.halo_sums.specs.Masks.{bits, has_bit}
@@ -16,6 +17,8 @@ use Rattle.halo_model.specs.OrderLaws.{no_life}
 use Rattle.halo_model.specs.Outcome.{joint_survivors}
 use Rattle.halo_model.proofs.EvenTies.{taken-out}
 use Rattle.halo_model.proofs.Independent.{survivors_of-le}
+use Rattle.halo_chance.specs.Enclosed.{entry_at}
+use Rattle.halo_life.specs.Lists.{entry}
 use Rattle.halo_life.specs.PlainGroup.{IsGroup, PlainGroup, started, surviving, survivors_in}
 use Rattle.halo_life.proofs.AlongTree.{started-is, survivors-is}
 use Rattle.halo_life.proofs.OneSet.{size-with}
@@ -23,7 +26,9 @@ use Rattle.halo_life.proofs.Subsets.{has-bit, without-bit}
 use Rattle.halo_life.proofs.Within.{bit-below}
 use Rattle.halo_life.proofs.YearChances.{joint-is, life-is}
 use Rattle.halo_compile.proofs.Tasks.{group-lives}
-use Rattle.halo_insure.specs.Ending.{EnclosesEndowment}
+use Rattle.halo_along.specs.Lives.{EncloseSurvival}
+use Rattle.halo_along.proofs.LivesAtTime.{survival-each}
+use Rattle.halo_endowment.specs.Endowment.{AreSurvivals, EnclosesEndowment}
 
 -- all of nobody survive
 pub survivors-of-nobody : (u n : ℕ) (lives : List PlainLife) → length lives ≡ n
@@ -130,3 +135,28 @@ life-survives n g group t i from low alive r c =
           narrow = c.narrow;
           within = c.within;
         })
+
+-- the chances of all lives to survive, told in their tables alone, if those are alive that have a row
+pub are-survivals : (n : ℕ) (g : PlainGroup) → IsGroup n g → (t : ℕ) → g.start ≤ t
+    → ((i : ℕ) → i < n → has_bit g.alive i ≡ nat_lt 0 (survivors_in g g.start i))
+    → (b : Basis) → b.lives ≡ lives_of g.file g.lives → (entries : List Ends)
+    → EncloseSurvival g t n entries → AreSurvivals b n g.start t entries
+are-survivals n g group t from alive b of_group entries enclosed i low =
+    let inside : i < length g.lives = omega (arith, low, group.count) in
+    let chance : EnclosesChance (surviving g t i) (started g i) 1 (entry_at entries i) =
+    rw (
+      ← survivors-is g.file t (has_bit g.alive) g.lives i inside,
+      ← started-is g.file g.start (has_bit g.alive) g.lives i inside,
+    ) (survival-each g t n entries enclosed i low) in
+    rw of_group (life-survives n g group t i from low (alive i low) (entry_at entries i) chance)
+
+-- what stays at one place and at all others stays everywhere
+pub stays : (old new : List Ends) (set : ℕ) → entry new set ≡ entry old set
+    → ((mask : ℕ) → mask ≢ set → entry new mask ≡ entry old mask) → (mask : ℕ) → entry new mask ≡ entry old mask
+stays old new set here others mask = ⊎_elim
+    (λ (before : mask < set). let other : mask ≢ set = omega arith in others mask other)
+    (λ (from : set ≤ mask). ⊎_elim
+    (λ (after : set < mask). let other : mask ≢ set = omega arith in others mask other)
+    (λ (upto : mask ≤ set). let same : mask ≡ set = omega arith in rw same here)
+    (cases_lt set mask))
+    (cases_lt mask set)

@@ -1,0 +1,2 @@
+pub mod EndowmentsOfSets
+pub mod Multiples

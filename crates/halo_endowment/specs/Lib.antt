@@ -1,0 +1,2 @@
+-- The definitions of pure endowments.
+pub mod Endowment
