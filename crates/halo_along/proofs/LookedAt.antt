@@ -13,6 +13,7 @@ use Rattle.halo_model.specs.Life.{PlainLife, after_first}
 use Rattle.halo_model.specs.Order.{rank_in}
 use Rattle.halo_model.proofs.EvenTies.{rank-behind, rank-first}
 use Rattle.halo_life.specs.PlainGroup.{IsGroup, PlainGroup}
+use Rattle.halo_chance.specs.Enclosed.{entry_at}
 use Rattle.halo_compile.proofs.Tasks.{count-lives}
 use Rattle.halo_along.specs.Leavings.{EncloseLookedAt, declared_rank}
 
@@ -81,3 +82,28 @@ module _ (group : PlainGroup) (a k : ℕ) where
           (started_of group.start (has_bit group.alive) lives count) 1 r
       at-its-time = subst (λ (m : ℕ). EnclosesChance m (started_of group.start (has_bit group.alive) lives count) 1 r)
           same enclosed
+
+  -- and so each of them encloses its life's chance, told at the time at which that life is looked at
+  pub looked-at-each : (n : ℕ) → IsGroup n group → a < n → (entries : List Ends) → EncloseLookedAt group a k n entries
+      → (i : ℕ) → i < n → EnclosesChance
+      (survivors_of (λ j. cond (nat_lt i a) (suc k) k) (has_bit group.alive) (lives_of group.file group.lives) i)
+      (started_of group.start (has_bit group.alive) (lives_of group.file group.lives) i) 1 (entry_at entries i)
+  unfolding EncloseLookedAt
+  looked-at-each n is low entries looked i there = subst
+      (λ (m : ℕ). EnclosesChance m (started_of group.start (has_bit group.alive) lives i) 1 (entry_at entries i))
+      same (looked i there)
+    where
+      lives : List PlainLife
+      lives = lives_of group.file group.lives
+
+      rank : ℕ → ℕ
+      rank = declared_rank (length lives)
+
+      its-time : looked_at rank a k i ≡ cond (nat_lt i a) (suc k) k
+      its-time = looked-at-is (length lives) a k i
+          (omega (arith, low, is.count, count-lives group)) (omega (arith, there, is.count, count-lives group))
+
+      same : survivors_of (looked_at rank a k) (has_bit group.alive) lives i
+          ≡ survivors_of (λ j. cond (nat_lt i a) (suc k) k) (has_bit group.alive) lives i
+      same = survivors-at (looked_at rank a k) (has_bit group.alive) lives i
+          ∙ ap (λ (u : ℕ). survivors_of (λ j. u) (has_bit group.alive) lives i) its-time

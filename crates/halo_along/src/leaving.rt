@@ -112,10 +112,11 @@ fn value_of_one<const N: usize, L: Ledger>(
     discount.mul(falling, steps)
 }
 
-// The probabilities that the lives are alive when they are looked at where a life leaves in year
-// `k`: at the end of the year those declared before it, at its start the others. They are exactly 0
-// for a life that is not alive at the group's time.
-fn looked_at<const N: usize>(group: &Group<N>, life: u8, k: u16) -> [Ival; MOST_LIVES]
+/// The probabilities that the lives are alive when they are looked at where a life leaves in year
+/// `k`, each by the number of its life and at most 1 fine unit wide: at the end of the year those
+/// declared before that life, at its start the others. They are exactly 0 for a life that is not
+/// alive at the group's time.
+pub fn looked_at<const N: usize>(group: &Group<N>, life: u8, k: u16) -> [Ival; MOST_LIVES]
     requires life { life < N }
     requires from { group.now.start ≤ k }
     requires time { k < LAST_TIME }

@@ -28,6 +28,7 @@ pub use bounds::{least_of_annuity, most_of_annuity};
 pub use by_kind::value_along;
 pub use contingent::contingent_along;
 pub use insurance::insurance_along;
+pub use leaving::looked_at;
 pub use lives::survivals;
 pub use parts::{on_life_along, on_term_along};
 pub use tree_task::TreeTask;

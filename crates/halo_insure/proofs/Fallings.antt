@@ -20,14 +20,18 @@ use Rattle.halo_model.specs.Order.{rank_in}
 use Rattle.halo_model.specs.OrderLaws.{no_life}
 use Rattle.halo_model.specs.SetValue.{can_fall_on_life, leaving_of}
 use Rattle.halo_model.proofs.EvenTies.{apart, nat_eq-same, rank-behind, rank-first, sum_over-kept_ext, product_over-kept_ext, taken-out, within}
-use Rattle.halo_life.specs.PlainGroup.{IsGroup, PlainGroup, leavers_of_life, leaving, started, survivors_in}
+use Rattle.halo_life.specs.PlainGroup.{IsGroup, PlainGroup, leavers_of_life, leaving, started, surviving, survivors_in}
+use Rattle.halo_life.proofs.AlongTree.{started-is, survivors-is}
 use Rattle.halo_life.proofs.OneSet.{size-of-lives, size-with}
 use Rattle.halo_life.proofs.Subsets.{has-bit, without-bit}
 use Rattle.halo_life.proofs.Within.{bit-below, inside}
 use Rattle.halo_life.proofs.YearChances.{group-splits, life-is}
 use Rattle.halo_insure.specs.Leavings.{counted_numbers, set_leavings}
-use Rattle.halo_insure.specs.OneLeaving.{EnclosesFalling, life_of_basis, there_when_leaving}
-use Rattle.halo_endowment.proofs.EndowmentsOfSets.{size-of-nobody, survivors-fall, survivors-of-nobody, survivors-with}
+use Rattle.halo_chance.specs.Enclosed.{entry_at}
+use Rattle.halo_along.specs.Leavings.{EncloseLookedAt}
+use Rattle.halo_along.proofs.LookedAt.{looked-at-each}
+use Rattle.halo_insure.specs.OneLeaving.{AreThereWhenLeaving, EnclosesFalling, life_of_basis, there_when_leaving}
+use Rattle.halo_endowment.proofs.EndowmentsOfSets.{life-survives, size-of-nobody, survivors-fall, survivors-of-nobody, survivors-with}
 
 -- in the declared order a life has its number as its rank
 rank-from : (count first i j : ℕ) → i < count → j ≡ first + i → rank_in (numbers_from first count) j ≡ i
@@ -172,6 +176,26 @@ life-leaves n g group causes k i from low alive r c =
           narrow = c.narrow;
           within = c.within;
         })
+
+-- the chances of the lives that are looked at, told in their tables alone, if those are alive that have a row
+pub there-looked-at : (n : ℕ) (g : PlainGroup) → IsGroup n g → (a k : ℕ) → a < n → g.start ≤ k
+    → ((i : ℕ) → i < n → has_bit g.alive i ≡ nat_lt 0 (survivors_in g g.start i))
+    → (b : Basis) → b.lives ≡ lives_of g.file g.lives → (entries : List Ends)
+    → EncloseLookedAt g a k n entries → AreThereWhenLeaving b n g.start a k entries
+there-looked-at n g group a k low from alive b of_group entries looked i there =
+    let t : ℕ = cond (nat_lt i a) (suc k) k in
+    let inside : i < length g.lives = omega (arith, there, group.count) in
+    let each = looked-at-each g a k n group low entries looked i there in
+    let chance : EnclosesChance (surviving g t i) (started g i) 1 (entry_at entries i) =
+    rw (
+      ← survivors-is g.file t (has_bit g.alive) g.lives i inside,
+      ← started-is g.file g.start (has_bit g.alive) g.lives i inside,
+    ) each in
+    rw of_group (life-survives n g group t i (later (nat_lt i a)) there (alive i there) (entry_at entries i) chance)
+  where
+    later : (c : Bool) → g.start ≤ cond c (suc k) k
+    later true = omega (arith, from)
+    later false = from
 
 module _ (b : Basis) (causes : ℕ → Bool) (n T a k : ℕ) (count : length b.lives ≡ n) where
   -- with nobody else: the discount factor times the chance that the life leaves

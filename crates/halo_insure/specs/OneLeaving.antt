@@ -19,6 +19,7 @@ use Rattle.halo_model.specs.Outcome.{joint_survivors}
 use Rattle.halo_model.specs.SetValue.{leaving_of}
 use Rattle.halo_poly.specs.Poly.{coefficient_at}
 use Rattle.halo_life.specs.Lists.{Lists, entry}
+use Rattle.halo_chance.specs.Enclosed.{entry_at}
 use Rattle.halo_compile.specs.NamedSets.{AreNamed}
 use Rattle.halo_compile.specs.OfTask.{pay_of_task}
 use Rattle.halo_compile.specs.declared.task.Task.{Task}
@@ -37,6 +38,13 @@ life_of_basis b i = get_or b.lives i no_life
 abbrev pub there_when_leaving : Basis → ℕ → ℕ → ℕ → (ℕ → Bool) → ℕ
 there_when_leaving b n a k S =
     product_over (lives_in n S) (λ i. (life_of_basis b i).survivors (cond (nat_lt i a) (suc k) k))
+
+-- the entries of n lives enclose their chances to be there when life a leaves in year k, each of
+-- them alive at T: each is at most 1 wide
+abbrev pub AreThereWhenLeaving : Basis → ℕ → ℕ → ℕ → ℕ → List Ends → Type 0
+AreThereWhenLeaving b n T a k entries = (i : ℕ) → i < n → EnclosesChance
+    ((life_of_basis b i).survivors (cond (nat_lt i a) (suc k) k))
+    ((life_of_basis b i).survivors T) 1 (entry_at entries i)
 
 -- i encloses the value at T of 1 paid at the end of year k if life a leaves in it by one of some
 -- causes and all of a set of others are there then, where all are alive at T. It is at most 3 wide

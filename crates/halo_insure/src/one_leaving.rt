@@ -1,7 +1,7 @@
 // What falls on the leaving of one life of an insurance, for all sets of lives, without a pass over
 // the years, where the lives of one year leave in the declared order: for each year a product for
 // each set tells the chance that the life leaves in it and the others of the set are there then.
-ghost use Rattle.std.specs.Prelude.{◌≡◌, ◌≢◌, Bool, ℕ, suc, ◌+◌, ◌-◌, ◌*◌, ◌^◌, ◌<◌, ◌≤◌, cond, false, nat_lt, pos, true};
+ghost use Rattle.std.specs.Prelude.{◌≡◌, ◌≢◌, Bool, ℕ, suc, ◌+◌, ◌-◌, ◌*◌, ◌^◌, ◌<◌, ◌≤◌, false, length, pos, true};
 ghost use Rattle.halo_interest.specs.declared.powers.TheConstants.{LAST_TIME};
 ghost use Rattle.halo_num.specs.Ends.{IsSized, IsWithin, fine};
 ghost use Rattle.halo_sums.specs.Masks.{has_bit};
@@ -10,11 +10,10 @@ ghost use Rattle.halo_status.specs.declared.pay.Kind.TheVariants.{Insurance};
 ghost use Rattle.halo_contract.specs.declared.ties.Ties.TheVariants.{Declared};
 ghost use Rattle.halo_model.specs.Backward.{above_zero, below_zero};
 ghost use Rattle.halo_model.specs.Basis.{Basis};
-ghost use Rattle.halo_model.specs.FromTables.{lives_of};
 ghost use Rattle.halo_model.specs.SetValue.{can_fall_on_life, leaving_of};
 ghost use Rattle.halo_poly.specs.Poly.{coefficient_at};
+ghost use Rattle.halo_chance.specs.Enclosed.{EachIsChance};
 ghost use Rattle.halo_life.specs.Lists.{entry};
-ghost use Rattle.halo_life.specs.PlainGroup.{survivors_in};
 ghost use Rattle.halo_life.specs.Total.{AreModestAt};
 ghost use Rattle.halo_life.specs.YearOfLives.{HasSmaller};
 ghost use Rattle.halo_compile.specs.NamedSets.{named_of_task};
@@ -23,15 +22,16 @@ ghost use Rattle.halo_compile.specs.ValidTask.{IsTask};
 ghost use Rattle.halo_along.specs.OfTask.{tree_task_of};
 ghost use Rattle.halo_along.specs.Years.{IsDiscount};
 ghost use Rattle.halo_insure.specs.OfTask.{HoldDuesOn};
-ghost use Rattle.halo_insure.specs.OneLeaving.{EnclosesFalling, HoldFallings, HoldLeavings, IsPaidMore, IsPaidOnLeaving};
+ghost use Rattle.halo_insure.specs.OneLeaving.{AreThereWhenLeaving, EnclosesFalling, HoldFallings, HoldLeavings, IsPaidMore, IsPaidOnLeaving};
 
 use crate::due::{due_above, due_below};
 use crate::sets::{Year, clear_all};
 use crate::step::year_of;
+use halo_along::looked_at;
 use halo_compile::{MOST_PAID, Task};
 use halo_endowment::{first_of, payments, without};
 use halo_interest::LAST_TIME;
-use halo_life::{Group, Work};
+use halo_life::{MOST_LIVES, Work};
 use halo_num::{Ival, ONE_IN_FINE_UNITS, Steps};
 use halo_sums::{has_bit, next_within};
 use std::sync::ledger::Ledger;
@@ -125,57 +125,39 @@ fn fallings<const N: usize, const M: usize, L: Ledger>(
     // The proof sees here that the lives have rows.
     let _start = group.start();
     let others = without(task.pay.body.lives(), life);
+    let lives = looked_at(&group, life, k);
     let leave = group.leave(life, k, task.pay.causes);
     work.put(0, discount.mul(leave, steps), Ival::exact(0));
     let mut set = 0;
     while set != others {
         set = next_within(set, others);
-        let falling = with_first(&group, set, life, k, work, steps);
+        let falling = with_first(&lives, set, work, steps);
         work.put(set, falling, Ival::exact(0));
     }
 }
 
-// That value for a set by that of the set without its first life. All lives are alive at the time
-// of the group that have a row at their age then.
-fn with_first<const N: usize, const M: usize, L: Ledger>(
-    group: &Group<N>,
+// That value for a set by that of the set without its first life, by the chances of the lives to be
+// there.
+fn with_first<const M: usize, L: Ledger>(
+    lives: &[Ival; MOST_LIVES],
     set: u16,
-    life: u8,
-    k: u16,
     work: &Work<M>,
     steps: &mut Steps<L>,
 ) -> Ival
-    requires sets { M ≡ 2 ^ N }
+    requires sets { M ≤ 2 ^ MOST_LIVES }
     requires some { 0 < set }
     requires below { set < M }
-    requires life { has_bit set life ≡ false }
-    requires from { group.now.start ≤ k }
-    requires time { k < LAST_TIME }
-    requires living { (i : ℕ) → i < N →
-        has_bit group.now.alive i ≡ nat_lt 0 (survivors_in group.now group.now.start i) }
+    requires chances { EachIsChance MOST_LIVES lives.now }
     requires smaller { HasSmaller (λ part i. IsWithin i (pos 0) (pos fine)) set work.now.plus }
-    ensures falling { (b : Basis) (causes : ℕ → Bool)
-        → b.lives ≡ lives_of group.now.file group.now.lives
-        → HasSmaller (EnclosesFalling b causes N group.now.start life k) set work.now.plus
-        → EnclosesFalling b causes N group.now.start life k set result }
+    ensures falling { (b : Basis) (causes : ℕ → Bool) (n T a k : ℕ) → M ≡ 2 ^ n →
+        length b.lives ≡ n → AreThereWhenLeaving b n T a k lives.now
+        → HasSmaller (EnclosesFalling b causes n T a k) set work.now.plus
+        → EnclosesFalling b causes n T a k set result }
     ensures cost { steps.new ≤ steps.old + 1 }
 {
-    // The proof sees here that the lives have rows.
-    let _start = group.start();
     let first = first_of(set);
     let others = work.plus(without(set, first));
-    others.mul(group.survive(first, time_looked_at(first, life, k)), steps)
-}
-
-// When life `i` is looked at where a life leaves in year `k`: at the end of the year those declared
-// before that life, at its start the others.
-fn time_looked_at(i: u8, life: u8, k: u16) -> u16
-    requires { k < LAST_TIME }
-    ensures time { result ≡ cond (nat_lt i life) (suc k) k }
-    ensures from { k ≤ result }
-    ensures small { result ≤ LAST_TIME }
-{
-    if i < life { k + 1 } else { k }
+    others.mul(lives[usize::from(first)], steps)
 }
 
 // For each set within `named` with the life: what is paid on its leaving in the year if the others

@@ -15,9 +15,10 @@ use Rattle.halo_along.specs.Years.{IsDiscount}
 use Rattle.halo_life.proofs.Within.{one-set-more, sets-up-to}
 use Rattle.halo_compile.specs.OfTask.{pay_of_task}
 use Rattle.halo_compile.proofs.NamedSets.{all-named, named-size, named-within, set-below}
+use Rattle.halo_compile.proofs.Tasks.{few-sets}
 use Rattle.halo_insure.specs.OneLeaving.{EnclosesFalling}
 use Rattle.halo_insure.specs.OfTask.{insured_basis}
-use Rattle.halo_insure.proofs.Fallings.{falling-alone, life-leaves}
+use Rattle.halo_insure.proofs.Fallings.{falling-alone, life-leaves, there-looked-at}
 use Rattle.halo_insure.proofs.Tasks.{lives-of-task}
 use Rattle.halo_insure.proofs.WithoutLife.{others-without, within-others}
 use Rattle.halo_insure.proofs.one_leaving.fallings.Goals as goal
@@ -86,43 +87,25 @@ with_first-falling-requires g c =
     let named = all-named c.lives.result body c.lives.ensures in
     let below = set-below task c.requires.task c.lives.result named in
     let next = c.next_within-set.ensures in
-    let at = c.at-group.ensures in
     let others = c.without-others.ensures in
-    let life = c.args.life in
-    let on : has_bit c.lives.result life ≡ true =
-    c.lives.ensures life ∙ falling-named (pay_of_task task) life c.requires.falls in
+    let few = few-sets g.row.N g.row.M c.requires.task.sets (omega (arith, c.start.ensures.group.few)) in
     let IsChance = EnclosesFalling (insured_basis task) (asked (pay_of_task task).causes) g.row.N
-    task.group.now.start life c.args.k in
+    task.group.now.start c.args.life c.args.k in
     let smaller = filled-before IsChance c.without-others.result c.loop-set.set c.next_within-set.result next.later
     next.next c.loop-set.work.plus next.within c.loop-set.invariant.sets in (
       lit< tt,
       (
-        lit< tt,
+        omega (arith, few),
         (
-          c.requires.task.sets,
+          omega (arith, next.later),
           (
-            omega (arith, next.later),
-            (
-              omega (
-                arith,
-                below,
-                others.smaller,
-                within-below c.next_within-set.result c.without-others.result next.within,
-              ),
-              (
-                others-without c.lives.result life on c.next_within-set.result (rw others.value at next.within),
-                (
-                  omega (arith, at.start, c.start.ensures.value, c.requires.from),
-                  (
-                    c.requires.time,
-                    (
-                      λ i low. rw (at.file, at.lives, at.start) (at.alive i low),
-                      λ part less inside. (smaller part less inside).within,
-                    ),
-                  ),
-                ),
-              ),
+            omega (
+              arith,
+              below,
+              others.smaller,
+              within-below c.next_within-set.result c.without-others.result next.within,
             ),
+            (c.looked_at-lives.ensures.chances, λ part less inside. (smaller part less inside).within),
           ),
         ),
       ),
@@ -163,7 +146,12 @@ loop-set-preserved g c =
     let IsChance = EnclosesFalling b causes g.row.N task.group.now.start life c.args.k in
     let smaller = filled-before IsChance c.without-others.result set c.next_within-set.result next.later next.next
     c.loop-set.work.plus next.within i.sets in
-    let falling = rw same at (c.with_first-falling.ensures.falling b causes of_group (rw same smaller)) in
+    let there = rw same at (there-looked-at g.row.N c.at-group.result c.start-start.ensures.group life c.args.k
+    c.requires.life (omega (arith, same, c.requires.from))
+    (λ i low. rw (at.file, at.lives, at.start) (at.alive i low)) b of_group c.looked_at-lives.result
+    c.looked_at-lives.ensures.lives) in
+    let falling = c.with_first-falling.ensures.falling b causes g.row.N task.group.now.start life c.args.k
+    c.requires.task.sets (lives-of-task task c.start.ensures.group) there smaller in
     record {
       within = next.within;
       sets = filled-next IsChance c.without-others.result set c.next_within-set.result next.later next.next
