@@ -1,8 +1,9 @@
 // What falls on one event of an insurance.
-ghost use Rattle.std.specs.Prelude.{◌≡◌, ◌+◌, ◌^◌, ◌<◌, ◌≤◌, false, true};
+ghost use Rattle.std.specs.Prelude.{◌≡◌, ◌+◌, ◌*◌, ◌^◌, ◌<◌, ◌≤◌, false, true};
 ghost use Rattle.halo_interest.specs.declared.powers.TheConstants.{LAST_TIME};
 ghost use Rattle.halo_status.specs.declared.pay.Kind.TheVariants.{Insurance};
 ghost use Rattle.halo_sums.specs.Masks.{has_bit};
+ghost use Rattle.halo_contract.specs.declared.ties.Ties.TheVariants.{Declared};
 ghost use Rattle.halo_life.specs.Lists.{nothing};
 ghost use Rattle.halo_model.specs.SetValue.{can_fall_on_life, can_fall_on_term, leaving_of};
 ghost use Rattle.halo_compile.specs.ValidTask.{IsTask};
@@ -38,8 +39,9 @@ use std::sync::ledger::Ledger;
 ///
 /// Where no life stands in the body twice and the lives of one year leave in the declared order, it
 /// goes along the tree of the body: with m nodes and a horizon of H years the counter is raised by
-/// at most 16 (H + 1) (m + 1)^2. Else it takes one pass over the years, which raises the counter as
-/// `insurance_all` does.
+/// at most 16 (H + 1) (m + 1)^2. Else it goes by sets of lives: in the declared order it takes no
+/// pass, and with n lives named by the body the counter is raised by at most H (2 + 2^n); by even
+/// ties it takes one pass over the years, which raises the counter as `insurance_all` does.
 pub fn on_life<const N: usize, const M: usize, L: Ledger>(
     task: &Task<N, M>,
     life: u8,
@@ -57,6 +59,8 @@ pub fn on_life<const N: usize, const M: usize, L: Ledger>(
         steps.new ≤ steps.old + products_along (tree_task_of task.now) }
     ensures by_sets { (PartsGoAlong task.now → ⊥) →
         steps.new ≤ steps.old + products_of_pass task.now }
+    ensures no_pass { (PartsGoAlong task.now → ⊥) → task.now.group.now.ties ≡ Declared →
+        steps.new ≤ steps.old + task.now.horizon * (2 + 2 ^ named_of_task task.now) }
 {
     // The proof sees here that there are few lives.
     let _start = task.group.start();
@@ -84,6 +88,8 @@ fn dues_on_life<const N: usize, const M: usize, L: Ledger>(
     requires falls { can_fall_on_life (pay_of_task task.now) life ≡ true }
     ensures values { HoldDuesOn task.now (leaving_of life) task.now.group.now.start work.new }
     ensures cost { steps.new ≤ steps.old + products_of_pass task.now }
+    ensures no_pass { task.now.group.now.ties ≡ Declared →
+        steps.new ≤ steps.old + task.now.horizon * (2 + 2 ^ named_of_task task.now) }
 {
     if task.group.is_even() {
         pass(task, Events::Leaving(life), work, steps);

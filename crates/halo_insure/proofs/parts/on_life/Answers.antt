@@ -37,6 +37,10 @@ pub returns-then-parts_go_along-clause-by_sets : goal.returns-then-parts_go_alon
 returns-then-parts_go_along-clause-by_sets g c = λ by_sets.
     absurd (by_sets (c.parts_go_along.ensures.0 c.if-parts_go_along.true))
 
+pub returns-then-parts_go_along-clause-no_pass : goal.returns-then-parts_go_along-clause-no_pass
+returns-then-parts_go_along-clause-no_pass g c = λ by_sets in_order.
+    absurd (by_sets (c.parts_go_along.ensures.0 c.if-parts_go_along.true))
+
 pub returns-clause-along_tree : goal.returns-clause-along_tree
 returns-clause-along_tree g c = λ goes.
     not-both c.parts_go_along.result (c.parts_go_along.ensures.1 goes) c.if-parts_go_along.false
