@@ -106,7 +106,8 @@ module _ {n m : ℕ} (task : Task n m) (is : IsTask task) (group : IsGroup n tas
         where
           same : (part : ℤ → ℕ) (i : Ends) → EnclosesLeavings part b pay a (bits n mask) T (k - T) i
               → EnclosesLeavings part b pay a (bits n mask) T (suc (k - T)) i
-          same part i now = same-later b (set_leavings b pay (leaving_of a) (bits n mask)) (set_survivors b (bits n mask))
+          same part i now =
+              same-later b (set_leavings b pay (leaving_of a) (bits n mask)) (set_survivors b (bits n mask))
               (due part mask) (4 * size_of (bits n mask)) T k from (no-end-due part mask k) i
               (rw (← due-is part mask below, unpaid) (omega arith)) now
 
@@ -124,7 +125,8 @@ module _ {n m : ℕ} (task : Task n m) (is : IsTask task) (group : IsGroup n tas
 
           whole : set_survivors b (bits n mask) T * accumulated b T
               ≡ product_over (numbers_from T (suc k - T)) (λ j. b.p j + b.q j)
-              * (life_of_basis b a).survivors T * joint_survivors T (in_set (bits n others)) b.lives * accumulated b (suc k)
+              * (life_of_basis b a).survivors T * joint_survivors T (in_set (bits n others)) b.lives
+              * accumulated b (suc k)
           whole =
               rw (
                 accumulated-from b T (suc k) (omega (arith, from)) (omega (arith, before, is.horizon_in)),
@@ -136,7 +138,8 @@ module _ {n m : ℕ} (task : Task n m) (is : IsTask task) (group : IsGroup n tas
               * set_leavings b pay (leaving_of a) (bits n mask) k * accumulated b (suc k)
               ≡ product_over (numbers_from T (suc k - T)) b.q * leavers_by (asked pay.causes) (life_of_basis b a) k
               * there_when_leaving b n a k (in_set (bits n others)) * accumulated b (suc k)
-          weight = rw (gap, leavings-with b pay n a in_order (lives-of-task task group) mask below on falls k) (omega arith)
+          weight =
+              rw (gap, leavings-with b pay n a in_order (lives-of-task task group) mask below on falls k) (omega arith)
 
           few : 3 * (suc k - T) + 2 + 2 * size_of (bits n others) ≤ suc (k - T) * (4 * size_of (bits n mask) + 3)
           few =

@@ -40,8 +40,8 @@ pay_leavings-requires g c =
                   λ mask h on. (c.fallings.ensures.fallings mask (inside mask h) (are mask h) on).within,
                   λ mask h on. let same = c.fallings.ensures.others mask on in
                       rw (same.0, same.1) (held-modest task c.requires.task c.start-start.ensures.group c.args.life
-                      c.requires.in_order c.args.k c.requires.from c.requires.before c.args.work.now c.requires.held mask
-                      (inside mask h) (are mask h) on),
+                      c.requires.in_order c.args.k c.requires.from c.requires.before c.args.work.now c.requires.held
+                      mask (inside mask h) (are mask h) on),
                 ),
               ),
             ),
