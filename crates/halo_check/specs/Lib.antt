@@ -1,3 +1,4 @@
+-- The definitions that the contracts of the checks cite.
 pub mod Parts
 pub mod Limits
 pub mod Draft

@@ -1,3 +1,4 @@
+-- The definitions that the contracts of the reader cite.
 pub mod Faults
 pub mod Reading
 pub mod Usable

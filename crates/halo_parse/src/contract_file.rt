@@ -1,5 +1,6 @@
 // Whole contract files.
 ghost use Rattle.std.specs.Prelude.{◌≡◌, ◌≤◌, ◌<◌, ◌+◌, ◌^◌, IfSome, IfNone, length};
+ghost use Rattle.halo_table.specs.declared.held.TheConstants.{LONGEST_FILE};
 ghost use Rattle.halo_contract.specs.PlainContract.{contract_of};
 ghost use Rattle.halo_check.specs.Draft.{contract_made};
 ghost use Rattle.halo_parse.specs.Faults.{IsWhole};
@@ -48,7 +49,7 @@ pub fn read_contract(
     bytes: &[u8],
     tables: &Tables,
 ) -> Result<Contract, ContractError>
-    requires { length bytes.now ≤ 16777216 }
+    requires { length bytes.now ≤ LONGEST_FILE }
     ensures { ReadsContract tables.now bytes.now result }
 {
     let mut lines = Lines::new(bytes);

@@ -1,3 +1,4 @@
+-- The definitions that the contracts of the canonical texts cite.
 pub mod Decimal
 pub mod Canonical
 pub mod StatusText

@@ -84,8 +84,8 @@ after_content k m b us s rest may allowed ends e =
     (content_ends s.mark s.body rest) e
 
 -- a symbol is told by its pieces
-pub symbol_one : (s t : Symbol) (r q : List Piece) → IsAllowed s → IsAllowed t → symbol_pieces s r ≡ symbol_pieces t q
-    → (s ≡ t) × (r ≡ q)
+pub symbol_one : (s t : Symbol) (r q : List Piece) → IsAllowed s → IsAllowed t
+    → symbol_pieces s r ≡ symbol_pieces t q → (s ≡ t) × (r ≡ q)
 symbol_one s t r q a b e =
     let defer = after_defer s.defer (from_head s r) t q (defer_ends s.defer _ _) e in
     let head = after_head s.vary s.kind (head_text s.vary s.kind) _ t q a.vary b.vary refl defer.1 in

@@ -1,3 +1,4 @@
+-- The definitions that the contracts of symbols and statuses cite.
 pub mod Characters
 pub mod Tree
 pub mod Symbol

@@ -1,3 +1,4 @@
+-- The definitions that the contracts of the lines of files cite.
 pub mod FileLines
 pub mod Depth
 pub mod Line

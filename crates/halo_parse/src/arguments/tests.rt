@@ -1,3 +1,4 @@
+// Numbers and fractions that a call names, and words that are none.
 use crate::{read_fraction, read_number};
 use halo_check::ContractKind;
 use halo_interest::Interest;

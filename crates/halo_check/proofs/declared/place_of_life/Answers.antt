@@ -13,11 +13,11 @@ returns-then-eq-clause-some c =
     get_or-life_names lives c.loop-place.place c.index-lives-place.result c.loop-place-test.true
     c.index-lives-place.is in
     let same = (bytes_eq-Decides c.bytes.result.now c.args.name.now).0 (sym c.if-eq.ensures) in
-    let lt : c.loop-place.place < length (life_names lives) = rw length-map c.loop-place-test.true in (
-      sym (place_of-first (life_names lives) c.loop-place.place c.args.name.now lt (at ∙ sym c.bytes.ensures.same ∙ same)
-          c.loop-place.invariant),
-      c.loop-place-test.true,
-    )
+    let lt : c.loop-place.place < length (life_names lives) = rw length-map c.loop-place-test.true in
+    let first =
+    place_of-first (life_names lives) c.loop-place.place c.args.name.now lt (at ∙ sym c.bytes.ensures.same ∙ same)
+    c.loop-place.invariant in
+    (sym first, c.loop-place-test.true)
 
 pub loop-place-preserved : goal.loop-place-preserved
 loop-place-preserved c =

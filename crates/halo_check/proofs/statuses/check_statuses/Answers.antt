@@ -7,15 +7,13 @@ use Rattle.halo_check.proofs.statuses.check_statuses.Goals as goal
 pub shares_nothing_added-requires : goal.shares_nothing_added-requires
 shares_nothing_added-requires c =
     low_lives c.args.tables.now (draft_of c.args.draft.now) (plain_line c.args.line.now) c.args.addition.now
-    c.requires.kept.few_lives (lives c.args.tables.now (draft_of c.args.draft.now) (plain_line c.args.line.now)
-    c.requires.passes) c.requires.adds
+    c.requires.kept.few_lives (lives _ _ _ c.requires.passes) c.requires.adds
 
 pub exists_at_start-requires : goal.exists_at_start-requires
 exists_at_start-requires c =
     low_lives c.args.tables.now (draft_of c.args.draft.now) (plain_line c.args.line.now) c.args.addition.now
-    c.requires.kept.few_lives (lives c.args.tables.now (draft_of c.args.draft.now) (plain_line c.args.line.now)
-    c.requires.passes) c.requires.adds
+    c.requires.kept.few_lives (lives _ _ _ c.requires.passes) c.requires.adds
 
 pub are_alive_then-requires-clause-within : goal.are_alive_then-requires-clause-within
 are_alive_then-requires-clause-within c =
-    within c.args.tables.now (draft_of c.args.draft.now) (plain_line c.args.line.now) c.requires.passes
+    within _ _ _ c.requires.passes
