@@ -10,7 +10,6 @@ pub mod ApartStatuses
 pub mod Apart
 pub mod BodyParts
 pub mod Nodes
-pub mod Mapped
 pub mod Passed
 pub mod PlacesOfLives
 pub mod LivesPlaced

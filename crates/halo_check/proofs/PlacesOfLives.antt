@@ -1,10 +1,9 @@
 -- The places of names.
-use Rattle.std.proofs.Common.{◌≡◌, ◌<◌, ◌↔◌, ◌∙◌, ℕ, IsTrue, List, [], Contains, ap, arith, get_or, inl, inr, length, refl, sym}
-use Rattle.std.specs.Prelude.{IfNone, IfSome, None, Option, Some, is_some}
+use Rattle.std.proofs.Common.{◌≡◌, ◌<◌, ◌∙◌, ℕ, List, [], Contains, ap, arith, get_or, inl, inr, length, sym}
 use Rattle.std.specs.Str.{bytes_eq}
 use Rattle.std.proofs.lemmas.Bool.{cases_Bool}
 use Rattle.std.proofs.lemmas.List.{get_or-map, get_or_default}
-use Rattle.std.proofs.lemmas.List.Sums.{passes_at_first, position_or_len_is}
+use Rattle.std.proofs.lemmas.List.Sums.{position_or_len_is}
 use Rattle.std.proofs.lemmas.Slice.Eq.{bytes_eq-Decides}
 use Rattle.halo_check.specs.Draft.{place_of}
 use Rattle.halo_contract.specs.PlainContract.{life_names}
@@ -35,19 +34,3 @@ place_of-first names place name lt is none =
 pub none_of_all : (names : List (List ℕ)) (name : List ℕ) → NoneBefore names (length names) name → Contains names name
     → ⊥
 none_of_all names name none found = none found.0 found.1 (get_or_default names found.0 [] name found.1 ∙ found.2)
-
--- a name whose place is one of theirs is among the names
-Contains-place_of : (names : List (List ℕ)) (name : List ℕ) → place_of names name < length names → Contains names name
-Contains-place_of names name lt = (
-  place_of names name,
-  lt,
-  (bytes_eq-Decides (get_or names (place_of names name) name) name).0
-      (passes_at_first (λ other. bytes_eq other name) names name lt),
-)
-
--- there is a place of a name exactly where the name is among the names
-pub IsSome-place : (names : List (List ℕ)) (name : List ℕ) (place : Option ℕ)
-    → IfSome place (λ p. (p ≡ place_of names name) × (p < length names)) → IfNone place (Contains names name → ⊥)
-    → IsTrue (is_some place) ↔ Contains names name
-IsSome-place names name (Some p) some none = ((λ _. Contains-place_of names name (omega (arith, some))), (λ _. refl))
-IsSome-place names name None some none = ((λ t. cc t), (λ found. absurd (none found)))

@@ -6,7 +6,7 @@ ghost use Rattle.halo_check.specs.Checks.{HasAge, HasCauses, HasLives, HasNoZero
 ghost use Rattle.halo_contract.specs.PlainContract.{amount_of_all, life_names};
 ghost use Rattle.halo_syntax.specs.Forms.{form_of};
 ghost use Rattle.halo_check.specs.FormOrder.{IsInOrder};
-ghost use Rattle.halo_check.specs.Limits.{IsRateWithin, IsShortName, IsUpTo};
+ghost use Rattle.halo_check.specs.Limits.{IsRateWithin, IsUpTo};
 ghost use Rattle.halo_syntax.specs.LineView.{plain_line, plain_rate};
 ghost use Rattle.halo_check.specs.DraftView.{draft_of};
 ghost use Rattle.halo_syntax.specs.ProperLine.{IsProperLine, IsProperRate};
@@ -14,8 +14,10 @@ ghost use Rattle.halo_syntax.specs.ProperLine.{IsProperLine, IsProperRate};
 use crate::draft::Draft;
 use crate::limits::{
     GREATEST_AGE, GREATEST_AMOUNT, GREATEST_PART, LAST_YEAR, MOST_LIVES, MOST_PAYS, MOST_RATES,
-    MOST_RESERVES, MOST_YEARS, is_short_name, is_status_within, is_symbol_within, is_up_to,
+    MOST_RESERVES, MOST_YEARS, are_short_names, is_short_name, is_status_within, is_symbol_within,
+    is_up_to,
 };
+use crate::numbers::number_within;
 use crate::zero::{has_no_zero_term, is_some_number};
 use halo_status::Pay;
 use halo_symbol::Vary;
@@ -76,18 +78,6 @@ fn is_rate_within(rate: &LaterRate<'_>) -> bool
     number_up_to(rate.year, LAST_YEAR).is_ok()
         && number_up_to(rate.p, GREATEST_PART).is_ok()
         && number_up_to(rate.q, GREATEST_PART).is_ok()
-}
-
-// Whether the names have at most 32 bytes each.
-fn are_short_names(names: &[&[u8]]) -> bool
-    ensures { IsTrue result ↔ All IsShortName (map (λ name. name.now) names.now) }
-{
-    for name in names {
-        if !is_short_name(name) {
-            return false;
-        }
-    }
-    true
 }
 
 // Whether the amount, also with those of the pays so far, is at most the greatest.
@@ -192,8 +182,5 @@ fn year_of(rate: &LaterRate<'_>) -> u64
     requires within { IsRateWithin (plain_rate rate.now) }
     ensures { result ≡ number rate.now.year.now }
 {
-    match number_up_to(rate.year, LAST_YEAR) {
-        Ok(year) => year,
-        Err(_) => unreachable!(),
-    }
+    number_within(rate.year, LAST_YEAR)
 }

@@ -31,6 +31,6 @@ pub use fault::ContractKind;
 pub use first_failed::check_writing;
 pub use limits::{GREATEST_AGE, GREATEST_AMOUNT, GREATEST_PART, LAST_YEAR, MOST_LIVES, MOST_RATES};
 pub use memory::Memory;
-pub use names::{age_of, place_of_table};
-pub use numbers::{number_within, rank_within, years_within};
+pub use names::place_of_table;
+pub use numbers::{age_within, number_within, rank_within, years_within};
 pub use statuses::check_statuses;

@@ -1,27 +1,24 @@
 // The checks of names: declared before or not, of a table, of lives, of causes.
 ghost use Rattle.std.specs.Prelude.{◌≡◌, ◌≤◌, ◌<◌, ◌↔◌, All, Contains, IfNone, IfOk, IfSome, IsTrue, length, map};
 ghost use Rattle.std.specs.Option.{option_map};
-ghost use Rattle.halo_text.specs.Number.{IsNumber, number};
 ghost use Rattle.halo_table.specs.DecrementTable.{names_of, HasRow};
 ghost use Rattle.halo_symbol.specs.SymbolView.{plain_names};
 ghost use Rattle.halo_check.specs.Checks.{AreDifferent, HasAge, HasCauses, HasLives, HasTable, IsOnce, IsWithinLimits};
 ghost use Rattle.halo_check.specs.Draft.{all_names, place_of};
 ghost use Rattle.halo_contract.specs.PlainContract.{life_names};
-ghost use Rattle.halo_check.specs.Limits.{IsUpTo};
 ghost use Rattle.halo_syntax.specs.LineView.{plain_line};
 ghost use Rattle.halo_check.specs.DraftView.{draft_of};
 ghost use Rattle.halo_syntax.specs.ProperLine.{IsProperLine};
 
 use crate::Memory;
-use crate::declared::{are_different, names_declared, place_of_life};
+use crate::declared::{are_different, is_declared, names_declared};
 use crate::draft::Draft;
 use crate::forms::came_before;
-use crate::limits::GREATEST_AGE;
+use crate::numbers::age_within;
 use halo_contract::LifeLine;
 use halo_symbol::Names;
 use halo_syntax::{Form, Line};
 use halo_table::Tables;
-use halo_text::number_up_to;
 use std::alloc::Global;
 
 /// Twice: whether there is just one interest, one ties and one premium line, a life's name is new,
@@ -32,7 +29,7 @@ pub fn is_once(alloc: Global, draft: &Draft, line: &Line<'_>) -> Result<bool, Me
 {
     match line {
         Line::Interest { .. } => Ok(!came_before(draft, Form::Interest)),
-        Line::Life { name, .. } => Ok(!is_life(&draft.lives, name)),
+        Line::Life { name, .. } => Ok(!is_declared(&draft.lives, name)),
         Line::Ties(_) => Ok(!came_before(draft, Form::Ties)),
         Line::Pay { symbol, .. } => match &symbol.causes {
             Some(names) => are_different_in_set(alloc, names),
@@ -71,18 +68,6 @@ fn is_table(tables: &Tables, name: &[u8]) -> bool
     place_of_table(tables, name).is_some()
 }
 
-/// The age that digits write, which is at most 150.
-pub fn age_of(digits: &[u8]) -> u16
-    requires number { IsNumber digits.now }
-    requires within { IsUpTo GREATEST_AGE digits.now }
-    ensures { result ≡ number digits.now }
-{
-    match number_up_to(digits, GREATEST_AGE) {
-        Ok(age) => age as u16,
-        Err(_) => unreachable!(),
-    }
-}
-
 /// `NoTable`: whether a life's table is in the tables file.
 pub fn has_table(tables: &Tables, line: &Line<'_>) -> bool
     ensures { IsTrue result ↔ HasTable tables.now (plain_line line.now) }
@@ -101,7 +86,7 @@ pub fn has_age(tables: &Tables, draft: &Draft, line: &Line<'_>) -> bool
 {
     match line {
         Line::Life { table, age, .. } => match place_of_table(tables, table) {
-            Some(table) => tables.has_row(table, age_of(age)),
+            Some(table) => tables.has_row(table, age_within(age)),
             None => false,
         },
         Line::Interest { .. } => true,
@@ -127,20 +112,13 @@ pub fn has_lives(draft: &Draft, line: &Line<'_>) -> bool
     }
 }
 
-// Whether a name is that of a life.
-fn is_life(lives: &[LifeLine], name: &[u8]) -> bool
-    ensures { IsTrue result ↔ Contains (life_names lives.now) name.now }
-{
-    place_of_life(lives, name).is_some()
-}
-
 // Whether each of the names is that of a life.
 fn are_lives(lives: &[LifeLine], names: &[&[u8]]) -> bool
     ensures { IsTrue result
         ↔ All (λ name. Contains (life_names lives.now) name) (map (λ name. name.now) names.now) }
 {
     for name in names {
-        if !is_life(lives, name) {
+        if !is_declared(lives, name) {
             return false;
         }
     }

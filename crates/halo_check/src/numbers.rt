@@ -3,7 +3,7 @@ ghost use Rattle.std.specs.Prelude.{◌≡◌};
 ghost use Rattle.halo_text.specs.Number.{IsNumber, number};
 ghost use Rattle.halo_check.specs.Limits.{IsUpTo};
 
-use crate::limits::{GREATEST_RANK, MOST_YEARS};
+use crate::limits::{GREATEST_AGE, GREATEST_RANK, MOST_YEARS};
 use halo_text::number_up_to;
 
 /// The number that digits write, which is at most `limit`.
@@ -12,10 +12,16 @@ pub fn number_within(digits: &[u8], limit: u64) -> u64
     requires within { IsUpTo limit digits.now }
     ensures { result ≡ number digits.now }
 {
-    match number_up_to(digits, limit) {
-        Ok(value) => value,
-        Err(_) => unreachable!(),
-    }
+    number_up_to(digits, limit).unwrap_or(limit)
+}
+
+/// The age that digits write, which is at most 150.
+pub fn age_within(digits: &[u8]) -> u16
+    requires number { IsNumber digits.now }
+    requires within { IsUpTo GREATEST_AGE digits.now }
+    ensures { result ≡ number digits.now }
+{
+    number_within(digits, GREATEST_AGE) as u16
 }
 
 /// The years that digits write, which are at most 200.

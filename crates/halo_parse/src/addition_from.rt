@@ -23,7 +23,7 @@ use crate::pay_from::pay_from;
 use crate::status_from::status_from;
 use halo_check::{
     Addition, ContractKind, Draft, GREATEST_AGE, GREATEST_PART, LAST_YEAR, MOST_LIVES, MOST_RATES,
-    Memory, age_of, number_within, place_of_table, years_within,
+    Memory, age_within, number_within, place_of_table, years_within,
 };
 use halo_contract::{LifeLine, ReserveLine, Ties};
 use halo_interest::Interest;
@@ -114,7 +114,7 @@ fn life_from(tables: &Tables, name: &[u8], table: &[u8], age: &[u8]) -> LifeLine
             name,
             life: Life {
                 table,
-                age: age_of(age),
+                age: age_within(age),
             },
         },
         _ => unreachable!(),

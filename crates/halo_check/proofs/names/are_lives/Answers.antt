@@ -10,13 +10,13 @@ loop-name-init c = each_none (λ name. Contains (life_names c.args.lives.now) na
 pub loop-name-preserved : goal.loop-name-preserved
 loop-name-preserved c =
     each_more (λ name. Contains (life_names c.args.lives.now) name) (λ name. name.now) c.args.names.now
-    c.loop-name.name-index _ c.loop-name-test.true (c.if-not-is_life.ensures.0 refl) c.loop-name.invariant
+    c.loop-name.name-index _ c.loop-name-test.true (c.if-not-is_declared.ensures.0 refl) c.loop-name.invariant
 
-pub returns-then-not-is_life : goal.returns-then-not-is_life
-returns-then-not-is_life c = (
+pub returns-then-not-is_declared : goal.returns-then-not-is_declared
+returns-then-not-is_declared c = (
   λ h. absurd cc,
   λ all. absurd (not_each (λ name. Contains (life_names c.args.lives.now) name) (λ name. name.now)
-      c.args.names.now c.loop-name.name-index _ c.loop-name-test.true (λ has. cc (c.if-not-is_life.ensures.1 has))
+      c.args.names.now c.loop-name.name-index _ c.loop-name-test.true (λ has. cc (c.if-not-is_declared.ensures.1 has))
       all),
 )
 

@@ -1,7 +1,0 @@
-use Rattle.halo_check.proofs.Places.{life_told}
-use Rattle.halo_check.proofs.names.is_life.Goals as goal
-
-pub returns : goal.returns
-returns c =
-    rw c.is_some.ensures (life_told c.args.lives.now c.args.name.now c.place_of_life.result c.place_of_life.ensures.some
-    c.place_of_life.ensures.none)
