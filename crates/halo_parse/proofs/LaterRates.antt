@@ -1,14 +1,22 @@
 -- The fractions of an interest line, one after the other.
 use Rattle.std.proofs.Common.{◌≡◌, ◌<◌, ◌≤◌, ◌+◌, ◌-◌, ◌∙◌, ℕ, zero, suc, List, [], ◌∷◌, ◌++◌, length, map, take, get_or, ap, sym, arith, refl}
+use Rattle.std.specs.Prelude.{All}
 use Rattle.std.proofs.lemmas.List.{get_or_at, length-map, length_push, map-append, map_more, take_all}
 use Rattle.halo_text.specs.Number.{number}
 use Rattle.halo_interest.specs.Rates.{CanFollow, IsFraction, no_interest, rate_at}
 use Rattle.halo_interest.specs.declared.rate.Rate.{Rate}
 use Rattle.halo_check.specs.Checks.{YearsRise}
 use Rattle.halo_check.specs.Draft.{rate_from}
+use Rattle.halo_syntax.specs.Line as plain
 use Rattle.halo_syntax.specs.LineView.{plain_rate}
 use Rattle.halo_syntax.specs.declared.line.LaterRate.{LaterRate}
+use Rattle.halo_check.proofs.Each.{each_at}
 use Rattle.halo_check.proofs.Years.{no_rate, year_here}
+
+-- what holds of each fraction holds of the one at a place
+pub rate_here : (P : plain.LaterRate → Type 0) (rates : List LaterRate) (k : ℕ) → All P (map plain_rate rates)
+    → k < length rates → P (plain_rate (get_or rates k no_rate))
+rate_here P rates k all lt = each_at P plain_rate rates all k no_rate lt
 
 -- the fraction of a later rate
 abbrev pub fraction_of : LaterRate → Rate

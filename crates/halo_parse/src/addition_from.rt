@@ -1,5 +1,5 @@
 // What a line adds to a contract, put together in memory.
-ghost use Rattle.std.specs.Prelude.{◌≡◌, ◌≤◌, ◌<◌, ◌∷◌, ◌^◌, All, Contains, IfOk, length, map};
+ghost use Rattle.std.specs.Prelude.{◌≡◌, ◌≤◌, ◌<◌, ◌∷◌, ◌^◌, All, Contains, IfErr, IfOk, MatchResult, length, map};
 ghost use Rattle.halo_text.specs.Number.{IsNumber, number};
 ghost use Rattle.halo_table.specs.DecrementTable.{names_of};
 ghost use Rattle.halo_check.specs.Addition.{Adds, IsKept};
@@ -22,8 +22,8 @@ use crate::masks::mask_of_lives;
 use crate::pay_from::pay_from;
 use crate::status_from::status_from;
 use halo_check::{
-    Addition, ContractKind, Draft, GREATEST_AGE, GREATEST_PART, LAST_YEAR, MOST_LIVES, MOST_RATES,
-    Memory, age_within, number_within, place_of_table, years_within,
+    Addition, ContractKind, Draft, GREATEST_AGE, GREATEST_PART, LAST_YEAR, LineError, MOST_LIVES,
+    MOST_RATES, Memory, age_within, number_within, place_of_table, years_within,
 };
 use halo_contract::{LifeLine, ReserveLine, Ties};
 use halo_interest::Interest;
@@ -39,17 +39,18 @@ pub fn addition_from(
     tables: &Tables,
     draft: &Draft,
     line: &Line<'_>,
-) -> Result<Addition, Memory>
+) -> Result<Addition, LineError>
     requires proper { IsProperLine (plain_line line.now) }
     requires passes { PassesBefore tables.now (draft_of draft.now) (plain_line line.now)
         ContractKind.Rank }
     requires kept { IsKept tables.now (draft_of draft.now) }
-    ensures { IfOk result (Adds tables.now (draft_of draft.now) (plain_line line.now)) }
+    ensures added { IfOk result (Adds tables.now (draft_of draft.now) (plain_line line.now)) }
+    ensures refused { IfErr result (λ error. error ≡ LineError.Memory) }
 {
     match line {
-        Line::Interest { p, q, later } => Ok(Addition::Interest(interest_from(p, q, later))),
+        Line::Interest { p, q, later } => Ok(Addition::Interest(interest_from(p, q, later)?)),
         Line::Life { name, table, age } => {
-            Ok(Addition::Life(life_from(tables, name, table, age)))
+            Ok(Addition::Life(life_from(tables, name, table, age)?))
         }
         Line::Ties(ties) => Ok(Addition::Ties(*ties)),
         Line::Pay { amount, symbol } => Ok(Addition::Pay(pay_from(
@@ -68,7 +69,7 @@ pub fn addition_from(
 }
 
 // The interest of a first fraction and later ones.
-fn interest_from(p: &[u8], q: &[u8], later: &[LaterRate<'_>]) -> Interest
+fn interest_from(p: &[u8], q: &[u8], later: &[LaterRate<'_>]) -> Result<Interest, LineError>
     requires p { IsNumber p.now }
     requires p_within { IsUpTo GREATEST_PART p.now }
     requires q { IsNumber q.now }
@@ -79,46 +80,52 @@ fn interest_from(p: &[u8], q: &[u8], later: &[LaterRate<'_>]) -> Interest
     requires some { All (λ rate. IsSome rate.year × IsSome rate.q) (map plain_rate later.now) }
     requires rise { YearsRise (map plain_rate later.now) }
     requires few { length later.now < MOST_RATES }
-    ensures { result ≡ record { year = 0; p = number p.now; q = number q.now }
-        ∷ map rate_from (map plain_rate later.now) }
+    ensures { MatchResult result
+        (λ interest. interest ≡ record { year = 0; p = number p.now; q = number q.now }
+        ∷ map rate_from (map plain_rate later.now))
+        (λ _. ⊥) }
 {
     let Some(mut interest) = Interest::new(
         number_within(p, GREATEST_PART),
         number_within(q, GREATEST_PART),
     ) else {
-        unreachable!()
+        return Err(LineError::Fault(ContractKind::Zero));
     };
     for rate in later {
         let year = number_within(rate.year, LAST_YEAR) as u16;
         let p = number_within(rate.p, GREATEST_PART);
         let q = number_within(rate.q, GREATEST_PART);
         if interest.add_from(year, p, q).is_none() {
-            unreachable!();
+            return Err(LineError::Fault(ContractKind::Years));
         }
     }
-    interest
+    Ok(interest)
 }
 
 // The life of a name, a table and an age.
-fn life_from(tables: &Tables, name: &[u8], table: &[u8], age: &[u8]) -> LifeLine
+fn life_from(tables: &Tables, name: &[u8], table: &[u8], age: &[u8]) -> Result<LifeLine, LineError>
     requires name { IsPlainName name.now }
     requires short { IsShortName name.now }
     requires table { Contains (names_of tables.now.tables) table.now }
     requires number { IsNumber age.now }
     requires age { IsUpTo GREATEST_AGE age.now }
     ensures { let place = place_of (names_of tables.now.tables) table.now in
-        result ≡ record { name = name.now; life = record { table = place; age = number age.now } } }
+        MatchResult result
+        (λ life. life
+        ≡ record { name = name.now; life = record { table = place; age = number age.now } })
+        (λ _. ⊥) }
 {
-    match (Name::new(name), place_of_table(tables, table)) {
-        (Some(name), Some(table)) => LifeLine {
-            name,
-            life: Life {
-                table,
-                age: age_within(age),
-            },
-        },
-        _ => unreachable!(),
-    }
+    let Some(name) = Name::new(name) else {
+        return Err(LineError::Fault(ContractKind::Magnitude));
+    };
+    let Some(table) = place_of_table(tables, table) else {
+        return Err(LineError::Fault(ContractKind::NoTable));
+    };
+    let age = age_within(age);
+    Ok(LifeLine {
+        name,
+        life: Life { table, age },
+    })
 }
 
 // What a premium of 1 pays, on the status that is written.

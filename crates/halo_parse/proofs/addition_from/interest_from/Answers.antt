@@ -2,11 +2,8 @@ use Rattle.std.proofs.Common.{arith, refl}
 use Rattle.halo_text.specs.Number.{number}
 use Rattle.halo_check.specs.Checks.{IsSome}
 use Rattle.halo_check.specs.Limits.{IsRateWithin}
-use Rattle.halo_syntax.specs.LineView.{plain_rate}
 use Rattle.halo_syntax.specs.ProperLine.{IsProperRate}
-use Rattle.halo_check.proofs.Each.{each_at}
-use Rattle.halo_parse.proofs.LaterRates.{may_follow, no_later}
-use Rattle.halo_check.proofs.Years.{no_rate}
+use Rattle.halo_parse.proofs.LaterRates.{may_follow, no_later, rate_here}
 use Rattle.halo_parse.proofs.addition_from.interest_from.Goals as goal
 
 pub loop-rate-init : goal.loop-rate-init
@@ -14,50 +11,32 @@ loop-rate-init c =
     rw (c.in-Some.ensures.value, c.number_within.ensures, c.number_within-2.ensures) (no_later _ c.args.later.now refl)
 
 pub number_within-year-requires-clause-number : goal.number_within-year-requires-clause-number
-number_within-year-requires-clause-number c =
-    (each_at IsProperRate plain_rate c.args.later.now c.requires.proper c.loop-rate.rate-index no_rate
-    c.loop-rate-test.true).year
+number_within-year-requires-clause-number c = (rate_here IsProperRate _ _ c.requires.proper c.loop-rate-test.true).year
 
 pub number_within-year-requires-clause-within : goal.number_within-year-requires-clause-within
-number_within-year-requires-clause-within c =
-    (each_at IsRateWithin plain_rate c.args.later.now c.requires.within c.loop-rate.rate-index no_rate
-    c.loop-rate-test.true).year
+number_within-year-requires-clause-within c = (rate_here IsRateWithin _ _ c.requires.within c.loop-rate-test.true).year
 
 pub overflow_cast-year : goal.overflow_cast-year
 overflow_cast-year c =
-    let within =
-    (each_at IsRateWithin plain_rate c.args.later.now c.requires.within c.loop-rate.rate-index no_rate
-    c.loop-rate-test.true).year in
+    let within = (rate_here IsRateWithin _ _ c.requires.within c.loop-rate-test.true).year in
     omega (arith, within, c.number_within-year.ensures)
 
 pub number_within-p-requires-clause-number : goal.number_within-p-requires-clause-number
-number_within-p-requires-clause-number c =
-    (each_at IsProperRate plain_rate c.args.later.now c.requires.proper c.loop-rate.rate-index no_rate
-    c.loop-rate-test.true).p
+number_within-p-requires-clause-number c = (rate_here IsProperRate _ _ c.requires.proper c.loop-rate-test.true).p
 
 pub number_within-p-requires-clause-within : goal.number_within-p-requires-clause-within
-number_within-p-requires-clause-within c =
-    (each_at IsRateWithin plain_rate c.args.later.now c.requires.within c.loop-rate.rate-index no_rate
-    c.loop-rate-test.true).p
+number_within-p-requires-clause-within c = (rate_here IsRateWithin _ _ c.requires.within c.loop-rate-test.true).p
 
 pub number_within-q-requires-clause-number : goal.number_within-q-requires-clause-number
-number_within-q-requires-clause-number c =
-    (each_at IsProperRate plain_rate c.args.later.now c.requires.proper c.loop-rate.rate-index no_rate
-    c.loop-rate-test.true).q
+number_within-q-requires-clause-number c = (rate_here IsProperRate _ _ c.requires.proper c.loop-rate-test.true).q
 
 pub number_within-q-requires-clause-within : goal.number_within-q-requires-clause-within
-number_within-q-requires-clause-within c =
-    (each_at IsRateWithin plain_rate c.args.later.now c.requires.within c.loop-rate.rate-index no_rate
-    c.loop-rate-test.true).q
+number_within-q-requires-clause-within c = (rate_here IsRateWithin _ _ c.requires.within c.loop-rate-test.true).q
 
-pub unreachable-requires-then-is_none : goal.unreachable-requires-then-is_none
-unreachable-requires-then-is_none c =
-    let within =
-    each_at IsRateWithin plain_rate c.args.later.now c.requires.within c.loop-rate.rate-index no_rate
-    c.loop-rate-test.true in
-    let some =
-    each_at (λ rate. IsSome rate.year × IsSome rate.q) plain_rate c.args.later.now c.requires.some
-    c.loop-rate.rate-index no_rate c.loop-rate-test.true in
+pub returns-then-is_none : goal.returns-then-is_none
+returns-then-is_none c =
+    let within = rate_here IsRateWithin _ _ c.requires.within c.loop-rate-test.true in
+    let some = rate_here (λ rate. IsSome rate.year × IsSome rate.q) _ _ c.requires.some c.loop-rate-test.true in
     let follows =
     may_follow (record {
       year = 0;
