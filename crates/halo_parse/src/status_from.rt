@@ -107,10 +107,7 @@ fn number_of_life(lives: &[LifeLine], name: &[u8]) -> u8
     requires few { length lives.now ≤ MOST_LIVES }
     ensures { result ≡ place_of (life_names lives.now) name.now }
 {
-    match place_of_life(lives, name) {
-        Some(place) => place as u8,
-        None => unreachable!(),
-    }
+    place_of_life(lives, name).unwrap_or(lives.len()) as u8
 }
 
 // A status in a place of its own.
