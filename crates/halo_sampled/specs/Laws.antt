@@ -3,6 +3,7 @@ use Rattle.std.specs.Prelude.{ℕ, ◌≡◌, ◌≢◌, ◌≤◌, None, length
 use Rattle.halo_records.specs.Records.{records_of}
 use Rattle.halo_table.specs.Faults.{NoFault}
 use Rattle.halo_table.specs.Grouping.{tables_of}
+use Rattle.halo_table.specs.declared.held.TheConstants.{LONGEST_FILE}
 use Rattle.halo_contract.specs.PlainContract.{PlainContract}
 use Rattle.halo_parse.specs.Faults.{WritesContract}
 use Rattle.halo_sample.specs.Sample.{sample_contract, sample_tables}
@@ -31,4 +32,4 @@ ContractHasNoFault = (number : ℕ) → (contract : PlainContract)
 -- the tables file has at most 2^24 bytes, and the contract file at most 2^16
 abbrev pub FilesAreShort : Type 0
 FilesAreShort = (number : ℕ)
-    → (length (sample_tables number) ≤ 16777216) × (length (sample_contract number) ≤ 65536)
+    → (length (sample_tables number) ≤ LONGEST_FILE) × (length (sample_contract number) ≤ 65536)
