@@ -90,14 +90,14 @@ symbol_one s t r q a b e =
     let defer = after_defer s.defer (from_head s r) t q (defer_ends s.defer _ _) e in
     let head = after_head s.vary s.kind (head_text s.vary s.kind) _ t q a.vary b.vary refl defer.1 in
     let causes = after_causes s.causes (in_brackets s r) t q (causes_end s.causes _) head.1 in
-    let content = after_content s.kind s.mark s.body _ t q a.mark b (content_ends s.mark s.body r) (behind causes.1) in (
+    let inside = after_content s.kind s.mark s.body _ t q a.mark b (content_ends s.mark s.body r) (behind causes.1) in (
       λ i. record {
         defer = defer.0 i;
         vary = head.0.0 i;
         kind = head.0.1 i;
         causes = causes.0 i;
-        body = content.1 i;
-        mark = content.0 i;
+        body = inside.1 i;
+        mark = inside.0 i;
       },
-      behind content.2,
+      behind inside.2,
     )
