@@ -18,14 +18,10 @@ use Rattle.halo_sample.proofs.SampleTables.{drawn-below}
 use Rattle.halo_sample.proofs.SampleWords.{contract-is-words}
 use Rattle.halo_sampled.specs.DrawnLines.{contract_drawn, drawn_lines, drawn_symbols, interest_drawn, last_drawn, life_drawn, lines_drawn, on_last, pay_drawn, symbol_at}
 
--- the bytes of a whole symbol
-abbrev text_of : Symbol → List ℕ
-text_of s = symbol_bytes s []
-
 -- the symbol that is drawn is written so
-symbol-written : (choice : ℕ) → choice < SYMBOLS → text_of (symbol_at choice) ≡ symbol_text choice
+symbol-written : (choice : ℕ) → choice < SYMBOLS → symbol_bytes (symbol_at choice) ≡ symbol_text choice
 unfolding symbol_text
-symbol-written choice known = sym (get_or-map text_of drawn_symbols choice on_last [] known)
+symbol-written choice known = sym (get_or-map symbol_bytes drawn_symbols choice on_last [] known)
 
 -- the words of the line of the interest are those of the sample
 interest-written : (s : ℕ) → line_words (interest_drawn s) ≡ interest_words s

@@ -1,5 +1,5 @@
 -- The text of the names of a set of causes from a place on.
-use Rattle.std.proofs.Common.{◌≡◌, ◌≢◌, ℕ, ◌+◌, ◌/◌, ◌%◌, ◌^◌, ◌<◌, ◌≤◌, List, [], ◌∷◌, ◌++◌, append_assoc, Bool, true, false, nat_eq, drop, get_or, length, arith, ap, ◌∙◌, refl, add-one, drop-cons, eq-eqb}
+use Rattle.std.proofs.Common.{◌≡◌, ◌≢◌, ℕ, ◌+◌, ◌/◌, ◌%◌, ◌^◌, ◌<◌, ◌≤◌, List, [], ◌∷◌, ◌++◌, append_assoc, Bool, true, false, nat_eq, drop, get_or, length, arith, ap, sym, ◌∙◌, refl, add-one, drop-cons, eq-eqb}
 use Rattle.std.proofs.Math.Nat.{pow-suc, div-div-eq-div-mul}
 use Rattle.std.specs.Prelude.{bit_and}
 use Rattle.std.proofs.lemmas.Bool.{ne_eqb}
@@ -20,13 +20,15 @@ abbrev pub names_from : List (List ℕ) → ℕ → ℕ → List (List ℕ)
 names_from names mask place = names_in (drop place names) (mask / 2 ^ place)
 
 -- where there is one, it is the set
-pub set_of_names : (names : List (List ℕ)) → names ≢ [] → set_bytes brace_open names ≡ causes_bytes (set_of names) []
+pub set_of_names : (names : List (List ℕ)) → names ≢ [] → set_bytes brace_open names ≡ causes_bytes (set_of names)
 set_of_names [] some = absurd (some refl)
 set_of_names (name ∷ names) some = ap (λ bs. brace_open ∷ (name ++ bs)) (others names)
   where
-    others : (names : List (List ℕ)) → set_bytes comma names ≡ other_names_bytes names (brace_close ∷ [])
+    others : (names : List (List ℕ)) → set_bytes comma names ≡ other_names_bytes names ++ brace_close ∷ []
     others [] = refl
-    others (name ∷ names) = ap (λ bs. comma ∷ (name ++ bs)) (others names)
+    others (name ∷ names) =
+        ap (λ bs. comma ∷ (name ++ bs)) (others names)
+        ∙ ap (λ bs. comma ∷ bs) (sym (append_assoc name (other_names_bytes names) (brace_close ∷ [])))
 
 module _ (names : List (List ℕ)) (mask k : ℕ) (here : k < length names) where
   -- the names from a place on are the one there and those behind it
@@ -74,7 +76,7 @@ none_left names mask k past = rw (drop_all k names past) refl
 
 -- from the first place on all names of the set are left
 pub all_names_left : (names : List (List ℕ)) (mask : ℕ) → 1 ≤ mask → mask < 2 ^ length names
-    → set_bytes brace_open (names_from names mask 0) ≡ causes_bytes (set_of (names_in names mask)) []
+    → set_bytes brace_open (names_from names mask 0) ≡ causes_bytes (set_of (names_in names mask))
 all_names_left names mask some few =
     let whole : mask / 2 ^ 0 ≡ mask = omega arith in
     ap (λ m. set_bytes brace_open (names_in names m)) whole

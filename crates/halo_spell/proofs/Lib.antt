@@ -1,5 +1,4 @@
 mod Digits
-pub mod Tails
 pub mod Positions
 pub mod MembersLeft
 pub mod LivesBelow

@@ -6,7 +6,8 @@ use Rattle.std.specs.List.{filter, join_with_byte, list_all}
 use Rattle.std.proofs.lemmas.Bool.{ne_eqb}
 use Rattle.std.proofs.lemmas.List.Sums.{AllPass-from_list_all}
 use Rattle.std.proofs.lemmas.List.Elements.{All-nil, All-cons, All-head, All-tail, All-append, All-weaker}
-use Rattle.halo_symbol.specs.Bytes.{body_bytes, causes_bytes, content_bytes, defer_bytes, head_text, kind_text, marked_bytes, members_bytes, node_bytes, other_names_bytes, symbol_bytes}
+use Rattle.halo_symbol.specs.Bytes.{body_bytes, head_text, kind_text, symbol_bytes}
+use Rattle.halo_symbol.proofs.Then.{body_alone, body_then, causes_then, content_then, defer_then, marked_then, members_then, node_then, other_names_then, symbol_alone, symbol_then}
 use Rattle.halo_symbol.specs.Characters.{angle_close, angle_open, bar_text, brace_close, brace_open, caret, colon, comma, letter_D, letter_I, round_close, round_open, slash, square_close, square_open, stroke}
 use Rattle.halo_status.specs.declared.pay.Kind.{Kind}
 use Rattle.halo_status.specs.declared.pay.Kind.TheVariants.{Insurance, Immediate, Due}
@@ -138,45 +139,45 @@ bracketed (suc less) nests inside rest within deep has =
 mutual
   -- there is room before a member that nests no deeper
   node_room : (m : Node) (room : ℕ) (rest : List ℕ) → IsProper m → nest m ≤ room → HasRoom room rest
-      → HasRoom room (node_bytes m rest)
+      → HasRoom room (node_then m rest)
   node_room (tree.life name) room rest proper deep has = before room name rest (name_is_none name proper.0) has
   node_room (term years) room rest proper deep has =
       written room (angle_open ∷ []) _ refl (before room years _ (number_is_none years proper)
       (written room (angle_close ∷ []) rest refl has))
   node_room (last ms) room rest proper deep has =
-      written room bar_text _ refl (bracketed room (nest_members ms) (members_bytes ms) rest
+      written room bar_text _ refl (bracketed room (nest_members ms) (members_then ms) rest
       (λ less d h. members_room ms less (round_close ∷ rest) proper d h) deep has)
   node_room (at_least rank ms) room rest proper deep has =
       before room rank _ (number_is_none rank proper.0)
-      (written room (slash ∷ []) _ refl (bracketed room (nest_members ms) (members_bytes ms) rest
+      (written room (slash ∷ []) _ refl (bracketed room (nest_members ms) (members_then ms) rest
       (λ less d h. members_room ms less (round_close ∷ rest) proper.1 d h) deep has))
   node_room (exactly rank ms) room rest proper deep has =
       written room (square_open ∷ []) _ refl
       (before room rank _ (number_is_none rank proper.0)
       (written room (square_close ∷ slash ∷ []) _ refl
-      (bracketed room (nest_members ms) (members_bytes ms) rest
+      (bracketed room (nest_members ms) (members_then ms) rest
       (λ less d h. members_room ms less (round_close ∷ rest) proper.1 d h) deep has)))
   node_room (group body) room rest proper deep has =
-      bracketed room (nest_body body) (body_bytes body) rest
+      bracketed room (nest_body body) (body_then body) rest
       (λ less d h. body_room body less (round_close ∷ rest) proper d h) deep has
 
   members_room : (ms : Members) (room : ℕ) (rest : List ℕ) → AreProper ms → nest_members ms ≤ room → HasRoom room rest
-      → HasRoom room (members_bytes ms rest)
+      → HasRoom room (members_then ms rest)
   members_room (one m) room rest proper deep has = node_room m room rest proper deep has
   members_room (and m ms) room rest proper deep has =
-      node_room m room (colon ∷ members_bytes ms rest) proper.0 (omega arith)
+      node_room m room (colon ∷ members_then ms rest) proper.0 (omega arith)
       (written room (colon ∷ []) _ refl (members_room ms room rest proper.1 (omega arith) has))
 
   body_room : (body : Body) (room : ℕ) (rest : List ℕ) → IsProperBody body → nest_body body ≤ room → HasRoom room rest
-      → HasRoom room (body_bytes body rest)
+      → HasRoom room (body_then body rest)
   body_room (list ms) room rest proper deep has = members_room ms room rest proper deep has
   body_room (reversion ms ns) room rest proper deep has =
-      members_room ms room (stroke ∷ members_bytes ns rest) proper.0 (omega arith)
+      members_room ms room (stroke ∷ members_then ns rest) proper.0 (omega arith)
       (written room (stroke ∷ []) _ refl (members_room ns room rest proper.1 (omega arith) has))
 
 marked_room : (place : ℕ) (rank : List ℕ) (ms : Members) (room : ℕ) (rest : List ℕ) → IsNumber rank → AreProper ms
     → nest_members ms ≤ room → HasRoom room rest
-    → HasRoom room (marked_bytes place rank ms rest)
+    → HasRoom room (marked_then place rank ms rest)
 marked_room zero rank (one m) room rest number proper deep has =
     node_room m room _ proper deep (written room (caret ∷ []) _ refl
     (before room rank rest (number_is_none rank number) has))
@@ -192,7 +193,7 @@ marked_room (suc place) rank (and m ms) room rest number proper deep has =
 
 content_room : (mark : Option Mark) (body : Body) (room : ℕ) (rest : List ℕ) → IfSome mark (λ m. IsNumber m.rank)
     → IsProperBody body → nest_body body ≤ room → HasRoom room rest
-    → HasRoom room (content_bytes mark body rest)
+    → HasRoom room (content_then mark body rest)
 content_room None body room rest number proper deep has = body_room body room rest proper deep has
 content_room (Some mark) (list ms) room rest number proper deep has =
     marked_room mark.member mark.rank ms room rest number proper deep has
@@ -213,13 +214,13 @@ head_is_none (decreasing count) kind proper =
     (All-append IsNoBracket count (kind_text kind) (number_is_none count proper) (kind_is_none kind))
 
 defer_room : (defer : Option (List ℕ)) (room : ℕ) (rest : List ℕ) → IfSome defer IsNumber → HasRoom room rest
-    → HasRoom room (defer_bytes defer rest)
+    → HasRoom room (defer_then defer rest)
 defer_room None room rest number has = has
 defer_room (Some years) room rest number has =
     before room years _ (number_is_none years number) (written room (stroke ∷ []) rest refl has)
 
 names_room : (names : List (List ℕ)) (room : ℕ) (rest : List ℕ) → All IsPlainName names → HasRoom room rest
-    → HasRoom room (other_names_bytes names rest)
+    → HasRoom room (other_names_then names rest)
 names_room [] room rest all has = has
 names_room (name ∷ names) room rest all has =
     written room (comma ∷ []) _ refl
@@ -227,7 +228,7 @@ names_room (name ∷ names) room rest all has =
     (names_room names room rest (All-tail IsPlainName name names all) has))
 
 causes_room : (causes : Option Names) (room : ℕ) (rest : List ℕ) → IfSome causes AreProperNames → HasRoom room rest
-    → HasRoom room (causes_bytes causes rest)
+    → HasRoom room (causes_then causes rest)
 causes_room None room rest proper has = has
 causes_room (Some names) room rest proper has =
     written room (brace_open ∷ []) _ refl
@@ -235,7 +236,7 @@ causes_room (Some names) room rest proper has =
     (names_room names.others room (brace_close ∷ rest) proper.1 (written room (brace_close ∷ []) rest refl has)))
 
 symbol_room : (s : Symbol) (room : ℕ) (rest : List ℕ) → IsProperSymbol s → nest_body s.body ≤ room → HasRoom room rest
-    → HasRoom room (symbol_bytes s rest)
+    → HasRoom room (symbol_then s rest)
 symbol_room s room rest proper deep has =
     defer_room s.defer room _ proper.defer
     (before room (head_text s.vary s.kind) _ (head_is_none s.vary s.kind proper.allowed.vary)
@@ -294,11 +295,13 @@ shallow_text l proper deep = (go l proper deep).most
     go (ties rule.Declared) proper deep = written 16 (codes "ties declared") [] refl (no_room 16)
     go (ties rule.Even) proper deep = written 16 (codes "ties even") [] refl (no_room 16)
     go (pay amount s) proper deep =
-        let symbol = written 16 (32 ∷ []) (symbol_bytes s []) refl (symbol_room s 16 [] proper.1 deep (no_room 16)) in
-        written 16 (codes "pay ") (amount ++ (32 ∷ symbol_bytes s [])) refl
-        (before 16 amount (32 ∷ symbol_bytes s []) (number_is_none amount proper.0) symbol)
+        let symbol = written 16 (32 ∷ []) (symbol_bytes s) refl
+        (subst (HasRoom 16) (symbol_alone s) (symbol_room s 16 [] proper.1 deep (no_room 16))) in
+        written 16 (codes "pay ") (amount ++ (32 ∷ symbol_bytes s)) refl
+        (before 16 amount (32 ∷ symbol_bytes s) (number_is_none amount proper.0) symbol)
     go (premium body) proper deep =
-        written 16 (codes "premium ") (body_bytes body []) refl (body_room body 16 [] proper deep (no_room 16))
+        written 16 (codes "premium ") (body_bytes body) refl
+        (subst (HasRoom 16) (body_alone body) (body_room body 16 [] proper deep (no_room 16)))
     go (reserve time names) proper deep =
         shallow_words (codes "reserve" ∷ time ∷ names)
         (cons (codes "reserve") (time ∷ names) (text_is_none (codes "reserve") refl)

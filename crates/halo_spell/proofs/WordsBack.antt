@@ -122,18 +122,18 @@ pieces_some (piece.bar ∷ pieces) are some = omega arith
 pieces_some (piece.number digits ∷ pieces) are some = omega (arith, length-append digits (piece_texts pieces), are.0.0)
 pieces_some (piece.byte b ∷ pieces) are some = omega arith
 
-symbol_word : (s : Symbol) → IsProperSymbol s → IsWord (symbol_bytes s [])
+symbol_word : (s : Symbol) → IsProperSymbol s → IsWord (symbol_bytes s)
 symbol_word s proper =
-    let are = spelled_pieces (symbol_bytes s []) s (record { proper = proper; bytes = refl }) in
+    let are = spelled_pieces (symbol_bytes s) s (record { proper = proper; bytes = refl }) in
     rw (← are.whole) (record {
       some = pieces_some (symbol_pieces s []) are.each
           (omega (arith, symbol_pieces-longer s []));
       plain = pieces_plain (symbol_pieces s []) are.each;
     })
 
-status_word : (body : Body) → IsProperBody body → IsWord (body_bytes body [])
+status_word : (body : Body) → IsProperBody body → IsWord (body_bytes body)
 status_word body proper =
-    let are = status_pieces (body_bytes body []) body (record { proper = proper; bytes = refl }) in
+    let are = status_pieces (body_bytes body) body (record { proper = proper; bytes = refl }) in
     rw (← are.whole) (record {
       some = pieces_some (body_pieces body []) are.each
           (omega (arith, body_pieces-longer body []));
@@ -189,12 +189,12 @@ module _ where
       keyword (codes "ties") (codes "even" ∷ []) (omega arith) refl
       (alone (codes "even") (written_word (codes "even") (omega arith) refl))
   are_words (pay amount s) proper =
-      keyword (codes "pay") (amount ∷ symbol_bytes s [] ∷ []) (omega arith) refl
-      (cons amount (symbol_bytes s [] ∷ []) (number_word amount proper.0)
-      (alone (symbol_bytes s []) (symbol_word s proper.1)))
+      keyword (codes "pay") (amount ∷ symbol_bytes s ∷ []) (omega arith) refl
+      (cons amount (symbol_bytes s ∷ []) (number_word amount proper.0)
+      (alone (symbol_bytes s) (symbol_word s proper.1)))
   are_words (premium body) proper =
-      keyword (codes "premium") (body_bytes body [] ∷ []) (omega arith) refl
-      (alone (body_bytes body []) (status_word body proper))
+      keyword (codes "premium") (body_bytes body ∷ []) (omega arith) refl
+      (alone (body_bytes body) (status_word body proper))
   are_words (reserve time names) proper =
       keyword (codes "reserve") (time ∷ names) (omega arith) refl
       (cons time names (number_word time proper.0) (All-weaker IsLongName IsWord name_word names proper.1))
@@ -239,8 +239,8 @@ line_words_back l proper = go l (are_words l proper)
     go (interest p q rates) are = words_back (codes "interest") (fraction_word p q ∷ rate_words rates) are
     go (life name table age) are = words_back (codes "life") (name ∷ table ∷ age ∷ []) are
     go (ties r) are = words_back (codes "ties") (rule_word r ∷ []) are
-    go (pay amount s) are = words_back (codes "pay") (amount ∷ symbol_bytes s [] ∷ []) are
-    go (premium body) are = words_back (codes "premium") (body_bytes body [] ∷ []) are
+    go (pay amount s) are = words_back (codes "pay") (amount ∷ symbol_bytes s ∷ []) are
+    go (premium body) are = words_back (codes "premium") (body_bytes body ∷ []) are
     go (reserve time names) are = words_back (codes "reserve") (time ∷ names) are
 
 -- a byte that ends no line

@@ -20,7 +20,7 @@ use Rattle.halo_spell.specs.Canonical.{canonical_body, canonical_symbol, names_i
 
 -- the canonical symbol of a pay, where the lives and the causes have these names
 abbrev pub pay_text : List (List ℕ) → List (List ℕ) → PlainPay → List ℕ
-pay_text lives causes pay = symbol_bytes (canonical_symbol lives causes pay) []
+pay_text lives causes pay = symbol_bytes (canonical_symbol lives causes pay)
 
 -- a fraction from its year on
 abbrev pub canonical_rate : Rate → LaterRate

@@ -11,9 +11,9 @@ use Rattle.halo_spell.specs.declared.status.Position.TheVariants as at
 
 -- the bytes of a status there, where the lives have these names
 abbrev pub bytes_at : Position → List (List ℕ) → Tree → List ℕ
-bytes_at at.Alone names s = body_bytes (canonical_body names s) []
-bytes_at at.Side names s = members_bytes (list_of (canonical_node names s)) []
-bytes_at at.Member names s = node_bytes (canonical_node names s) []
+bytes_at at.Alone names s = body_bytes (canonical_body names s)
+bytes_at at.Side names s = members_bytes (list_of (canonical_node names s))
+bytes_at at.Member names s = node_bytes (canonical_node names s)
 
 -- the canonical text of a status by itself
 abbrev pub status_text : List (List ℕ) → Tree → List ℕ

@@ -1,10 +1,9 @@
 // The text of a status.
-ghost use Rattle.std.specs.Prelude.{◌≡◌, ◌∷◌, [], ◌++◌, OnOk, length};
+ghost use Rattle.std.specs.Prelude.{◌≡◌, ◌++◌, OnOk, length};
 ghost use Rattle.std.specs.Option.{option_map};
 ghost use Rattle.halo_status.specs.Naming.{AnyNamesLivesBelow, NamesLivesBelow};
 ghost use Rattle.halo_status.specs.StatusTree.{tree_of, trees_in};
-ghost use Rattle.halo_symbol.specs.Bytes.{body_bytes, content_bytes};
-ghost use Rattle.halo_symbol.specs.Characters.{round_open, round_close};
+ghost use Rattle.halo_symbol.specs.Bytes.{body_bytes, content_bytes, in_round, members_bytes};
 ghost use Rattle.halo_symbol.specs.Tree as written;
 ghost use Rattle.halo_contract.specs.PlainContract.{life_names};
 ghost use Rattle.halo_spell.specs.Canonical.{canonical_mark, canonical_members, canonical_node, list_of};
@@ -28,7 +27,7 @@ pub enum Position {
 
 /// Writes a status behind a text. Each life that it names has a place in `lives`.
 #[cycle(spelling)]
-#[tactic(auto, using(halo_status::proofs::Shapes::shapes, crate::proofs::Tails::tails))]
+#[tactic(auto, using(halo_status::proofs::Shapes::shapes))]
 pub fn write_status(
     status: &Status,
     position: Position,
@@ -78,7 +77,6 @@ pub fn write_status(
 
 // Writes a reversion: the second status after the first.
 #[cycle(spelling)]
-#[tactic(auto, using(crate::proofs::Tails::tails))]
 fn write_reversion(
     first: &Status,
     then: &Status,
@@ -90,7 +88,7 @@ fn write_reversion(
     ensures { OnOk result (into.new.items ≡ into.old.items
         ++ body_bytes (written.reversion
         (list_of (canonical_node (life_names lives.now) (tree_of first.now)))
-        (list_of (canonical_node (life_names lives.now) (tree_of then.now)))) []) }
+        (list_of (canonical_node (life_names lives.now) (tree_of then.now))))) }
 {
     write_status(first, Position::Side, lives, into)?;
     into.push(b'|')?;
@@ -99,13 +97,11 @@ fn write_reversion(
 
 // Writes a list in round brackets.
 #[cycle(spelling)]
-#[tactic(auto, using(crate::proofs::Tails::tails))]
 fn write_bracketed(members: &Members, lives: &[LifeLine], into: &mut Vec<u8>) -> Result<(), Memory>
     requires { AnyNamesLivesBelow (length lives.now) (trees_in members.now) }
     ensures { OnOk result (into.new.items ≡ into.old.items
-        ++ (round_open ∷ (body_bytes (written.list
-        (canonical_members (life_names lives.now) (trees_in members.now))) []
-        ++ round_close ∷ []))) }
+        ++ in_round (members_bytes (canonical_members (life_names lives.now)
+        (trees_in members.now)))) }
 {
     into.push(b'(')?;
     write_members(members, None, lives, into)?;
@@ -124,7 +120,7 @@ pub fn write_members(
     requires { AnyNamesLivesBelow (length lives.now) (trees_in members.now) }
     ensures { OnOk result (into.new.items ≡ into.old.items
         ++ content_bytes (option_map canonical_mark mark)
-        (written.list (canonical_members (life_names lives.now) (trees_in members.now))) []) }
+        (written.list (canonical_members (life_names lives.now) (trees_in members.now)))) }
 {
     for place in 0..members.len() {
         write_separator_at(place, into)?;

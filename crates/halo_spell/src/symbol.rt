@@ -1,5 +1,5 @@
 // The canonical symbol of a pay.
-ghost use Rattle.std.specs.Prelude.{◌≡◌, ◌<◌, ◌≤◌, ◌^◌, [], ◌++◌, IfSome, OnOk, length};
+ghost use Rattle.std.specs.Prelude.{◌≡◌, ◌<◌, ◌≤◌, ◌^◌, ◌++◌, IfSome, OnOk, length};
 ghost use Rattle.std.specs.Option.{option_and_then, option_map};
 ghost use Rattle.halo_status.specs.Naming.{NamesLivesBelow};
 ghost use Rattle.halo_status.specs.Pay.{pay_of};
@@ -41,7 +41,7 @@ pub fn write_symbol(
 // Writes a deferral, where there is one.
 fn write_defer(years: u16, into: &mut Vec<u8>) -> Result<(), Memory>
     ensures { OnOk result (into.new.items ≡ into.old.items
-        ++ defer_bytes (canonical_defer years) []) }
+        ++ defer_bytes (canonical_defer years)) }
 {
     if years == 0 {
         return Ok(());
@@ -84,7 +84,7 @@ fn write_causes(causes: Option<u8>, tables: &Tables, into: &mut Vec<u8>) -> Resu
     requires known { IfSome causes (λ mask. mask < 2 ^ length tables.now.causes) }
     ensures { OnOk result (into.new.items ≡ into.old.items
         ++ causes_bytes
-        (option_and_then (λ mask. set_of (names_in tables.now.causes mask)) causes) []) }
+        (option_and_then (λ mask. set_of (names_in tables.now.causes mask)) causes)) }
 {
     let Some(mask) = causes else {
         return Ok(());
@@ -107,7 +107,7 @@ fn write_content(pay: &Pay, lives: &[LifeLine], into: &mut Vec<u8>) -> Result<()
     requires mark { IfSome pay.now.mark (CanBeMarked (tree_of pay.now.body)) }
     ensures { OnOk result (into.new.items ≡ into.old.items
         ++ content_bytes (option_map canonical_mark pay.now.mark)
-        (canonical_body (life_names lives.now) (tree_of pay.now.body)) []) }
+        (canonical_body (life_names lives.now) (tree_of pay.now.body))) }
 {
     match &pay.body {
         Status::Joint(members) => write_members(members, pay.mark, lives, into),

@@ -8,6 +8,7 @@ pub mod Sets
 pub mod Marks
 pub mod Symbols
 pub mod Cuts
+pub mod Then
 pub mod Texts
 pub mod Cutting
 pub mod SymbolCutting

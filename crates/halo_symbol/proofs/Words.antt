@@ -11,6 +11,7 @@ use Rattle.halo_symbol.proofs.Unique.{body_unique}
 use Rattle.halo_symbol.proofs.Symbols.{symbol_one}
 use Rattle.halo_symbol.proofs.Cuts.{pieces_one}
 use Rattle.halo_symbol.proofs.Texts.{body_texts, symbol_texts}
+use Rattle.halo_symbol.proofs.Then.{body_alone, symbol_alone}
 use Rattle.halo_symbol.proofs.Cutting.{body_are, body_proper}
 use Rattle.halo_symbol.proofs.SymbolCutting.{symbol_are, symbol_proper}
 
@@ -22,7 +23,7 @@ pub record ArePiecesIn (word : List ℕ) (pieces : List Piece) : Type 0 where
 -- the pieces of a symbol are those of the word that spells it
 pub spelled_pieces : (word : List ℕ) (s : Symbol) → SpellsSymbol word s → ArePiecesIn word (symbol_pieces s [])
 spelled_pieces word s spells =
-    record { each = symbol_are s [] spells.proper tt; whole = symbol_texts s [] ∙ sym spells.bytes }
+    record { each = symbol_are s [] spells.proper tt; whole = symbol_texts s [] ∙ symbol_alone s ∙ sym spells.bytes }
 
 -- and there are no others
 pub pieces_spelled : (word : List ℕ) (ps : List Piece) (s : Symbol) → ArePiecesIn word ps → SpellsSymbol word s
@@ -37,13 +38,13 @@ pub spells_symbol : (word : List ℕ) (ps : List Piece) (s : Symbol) → ArePiec
 spells_symbol word ps s are allowed e =
     record {
       proper = symbol_proper s [] allowed (subst ArePieces e are.each);
-      bytes = sym are.whole ∙ ap piece_texts e ∙ symbol_texts s [];
+      bytes = sym are.whole ∙ ap piece_texts e ∙ symbol_texts s [] ∙ symbol_alone s;
     }
 
 -- the pieces of a status are those of the word that spells it
 pub status_pieces : (word : List ℕ) (body : Body) → SpellsStatus word body → ArePiecesIn word (body_pieces body [])
 status_pieces word body spells =
-    record { each = body_are body [] spells.proper tt tt; whole = body_texts body [] ∙ sym spells.bytes }
+    record { each = body_are body [] spells.proper tt tt; whole = body_texts body [] ∙ body_alone body ∙ sym spells.bytes }
 
 -- and there are no others
 pub pieces_status : (word : List ℕ) (ps : List Piece) (body : Body) → ArePiecesIn word ps → SpellsStatus word body
@@ -58,7 +59,7 @@ pub spells_status : (word : List ℕ) (ps : List Piece) (body : Body) → ArePie
 spells_status word ps body are e =
     record {
       proper = (body_proper body [] (subst ArePieces e are.each)).0;
-      bytes = sym are.whole ∙ ap piece_texts e ∙ body_texts body [];
+      bytes = sym are.whole ∙ ap piece_texts e ∙ body_texts body [] ∙ body_alone body;
     }
 
 -- a body ends where nothing follows

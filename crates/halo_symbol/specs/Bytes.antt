@@ -1,6 +1,4 @@
--- The grammar of symbols and statuses: the bytes that each of them is written with. Each definition
--- takes the bytes that stand
--- behind what it writes.
+-- The grammar of symbols and statuses: the bytes that each of them is written with.
 use Rattle.std.specs.Prelude.{ℕ, zero, suc, List, [], ◌∷◌, ◌++◌, codes, Option, Some, None}
 use Rattle.halo_status.specs.declared.pay.Kind.{Kind}
 use Rattle.halo_status.specs.declared.pay.Kind.TheVariants.{Insurance, Immediate, Due}
@@ -8,43 +6,43 @@ use Rattle.halo_symbol.specs.Characters.{round_open, round_close, comma, slash, 
 use Rattle.halo_symbol.specs.Tree.{Node, life, term, last, at_least, exactly, group, Members, one, and, Body, list, reversion}
 use Rattle.halo_symbol.specs.Symbol.{Vary, level, increasing, decreasing, Names, Mark, Symbol}
 
+-- bytes between `(` and `)`
+abbrev pub in_round : List ℕ → List ℕ
+in_round bytes = round_open ∷ (bytes ++ round_close ∷ [])
+
 abbrev mutual
   -- a member
-  pub node_bytes : Node → List ℕ → List ℕ
-  node_bytes (life name) rest = name ++ rest
-  node_bytes (term years) rest = angle_open ∷ (years ++ (angle_close ∷ rest))
-  node_bytes (last ms) rest = bar_text ++ (round_open ∷ members_bytes ms (round_close ∷ rest))
-  node_bytes (at_least rank ms) rest =
-      rank ++ (slash ∷ round_open ∷ members_bytes ms (round_close ∷ rest))
-  node_bytes (exactly rank ms) rest =
-      square_open ∷ (rank ++ (square_close ∷ slash ∷ round_open ∷ members_bytes ms
-      (round_close ∷ rest)))
-  node_bytes (group body) rest = round_open ∷ body_bytes body (round_close ∷ rest)
+  pub node_bytes : Node → List ℕ
+  node_bytes (life name) = name
+  node_bytes (term years) = angle_open ∷ (years ++ angle_close ∷ [])
+  node_bytes (last ms) = bar_text ++ in_round (members_bytes ms)
+  node_bytes (at_least rank ms) = rank ++ slash ∷ in_round (members_bytes ms)
+  node_bytes (exactly rank ms) =
+      square_open ∷ (rank ++ square_close ∷ slash ∷ in_round (members_bytes ms))
+  node_bytes (group body) = in_round (body_bytes body)
 
   -- a list, with `:` between its members
-  pub members_bytes : Members → List ℕ → List ℕ
-  members_bytes (one m) rest = node_bytes m rest
-  members_bytes (and m ms) rest = node_bytes m (colon ∷ members_bytes ms rest)
+  pub members_bytes : Members → List ℕ
+  members_bytes (one m) = node_bytes m
+  members_bytes (and m ms) = node_bytes m ++ colon ∷ members_bytes ms
 
-  -- a body with no mark
-  pub body_bytes : Body → List ℕ → List ℕ
-  body_bytes (list ms) rest = members_bytes ms rest
-  body_bytes (reversion ms ns) rest = members_bytes ms (stroke ∷ members_bytes ns rest)
+  -- a body with no mark: one list, or two with `|` between them
+  pub body_bytes : Body → List ℕ
+  body_bytes (list ms) = members_bytes ms
+  body_bytes (reversion ms ns) = members_bytes ms ++ stroke ∷ members_bytes ns
 
 -- a list with `^` and a rank behind the member at a place, which is one of the list's
-abbrev pub marked_bytes : ℕ → List ℕ → Members → List ℕ → List ℕ
-marked_bytes zero rank (one m) rest = node_bytes m (caret ∷ (rank ++ rest))
-marked_bytes zero rank (and m ms) rest =
-    node_bytes m (caret ∷ (rank ++ (colon ∷ members_bytes ms rest)))
-marked_bytes (suc place) rank (one m) rest = node_bytes m rest
-marked_bytes (suc place) rank (and m ms) rest =
-    node_bytes m (colon ∷ marked_bytes place rank ms rest)
+abbrev pub marked_bytes : ℕ → List ℕ → Members → List ℕ
+marked_bytes zero rank (one m) = node_bytes m ++ caret ∷ rank
+marked_bytes zero rank (and m ms) = node_bytes m ++ caret ∷ (rank ++ colon ∷ members_bytes ms)
+marked_bytes (suc place) rank (one m) = node_bytes m
+marked_bytes (suc place) rank (and m ms) = node_bytes m ++ colon ∷ marked_bytes place rank ms
 
 -- a body with the mark that it may have; only a body that is one list has one
-abbrev pub content_bytes : Option Mark → Body → List ℕ → List ℕ
-content_bytes None body rest = body_bytes body rest
-content_bytes (Some mark) (list ms) rest = marked_bytes mark.member mark.rank ms rest
-content_bytes (Some mark) (reversion ms ns) rest = body_bytes (reversion ms ns) rest
+abbrev pub content_bytes : Option Mark → Body → List ℕ
+content_bytes None body = body_bytes body
+content_bytes (Some mark) (list ms) = marked_bytes mark.member mark.rank ms
+content_bytes (Some mark) (reversion ms ns) = body_bytes (reversion ms ns)
 
 -- the letters of a kind
 abbrev pub kind_text : Kind → List ℕ
@@ -59,23 +57,25 @@ head_text increasing kind = letter_I ∷ kind_text kind
 head_text (decreasing count) kind = letter_D ∷ (count ++ kind_text kind)
 
 -- the digits of a deferral and `|`, where there is one
-abbrev pub defer_bytes : Option (List ℕ) → List ℕ → List ℕ
-defer_bytes None rest = rest
-defer_bytes (Some years) rest = years ++ (stroke ∷ rest)
+abbrev pub defer_bytes : Option (List ℕ) → List ℕ
+defer_bytes None = []
+defer_bytes (Some years) = years ++ stroke ∷ []
 
 -- the names behind the first of a set, each behind a `,`
-abbrev pub other_names_bytes : List (List ℕ) → List ℕ → List ℕ
-other_names_bytes [] rest = rest
-other_names_bytes (name ∷ names) rest = comma ∷ (name ++ other_names_bytes names rest)
+abbrev pub other_names_bytes : List (List ℕ) → List ℕ
+other_names_bytes [] = []
+other_names_bytes (name ∷ names) = comma ∷ (name ++ other_names_bytes names)
 
 -- the set of causes, where there is one
-abbrev pub causes_bytes : Option Names → List ℕ → List ℕ
-causes_bytes None rest = rest
-causes_bytes (Some names) rest =
-    brace_open ∷ (names.first ++ other_names_bytes names.others (brace_close ∷ rest))
+abbrev pub causes_bytes : Option Names → List ℕ
+causes_bytes None = []
+causes_bytes (Some names) =
+    brace_open ∷ (names.first ++ (other_names_bytes names.others ++ brace_close ∷ []))
 
 -- a whole symbol
-abbrev pub symbol_bytes : Symbol → List ℕ → List ℕ
-symbol_bytes s rest =
-    defer_bytes s.defer (head_text s.vary s.kind ++ causes_bytes s.causes
-    (square_open ∷ content_bytes s.mark s.body (square_close ∷ rest)))
+abbrev pub symbol_bytes : Symbol → List ℕ
+symbol_bytes s =
+    defer_bytes s.defer
+    ++ (head_text s.vary s.kind
+    ++ (causes_bytes s.causes
+    ++ (square_open ∷ (content_bytes s.mark s.body ++ square_close ∷ []))))

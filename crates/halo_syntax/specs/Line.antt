@@ -46,6 +46,6 @@ abbrev pub line_words : Line → List (List ℕ)
 line_words (interest p q rates) = codes "interest" ∷ fraction_word p q ∷ rate_words rates
 line_words (life name table age) = codes "life" ∷ name ∷ table ∷ age ∷ []
 line_words (ties r) = codes "ties" ∷ rule_word r ∷ []
-line_words (pay amount symbol) = codes "pay" ∷ amount ∷ symbol_bytes symbol [] ∷ []
-line_words (premium status) = codes "premium" ∷ body_bytes status [] ∷ []
+line_words (pay amount symbol) = codes "pay" ∷ amount ∷ symbol_bytes symbol ∷ []
+line_words (premium status) = codes "premium" ∷ body_bytes status ∷ []
 line_words (reserve time names) = codes "reserve" ∷ time ∷ names

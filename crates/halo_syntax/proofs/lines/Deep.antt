@@ -12,7 +12,8 @@ use Rattle.halo_status.specs.declared.pay.Kind.TheVariants.{Insurance, Immediate
 use Rattle.halo_text.specs.Name.{is_name_byte}
 use Rattle.halo_text.specs.Number.{IsDigit, IsNumber}
 use Rattle.halo_lex.specs.Lexeme.{IsLongName}
-use Rattle.halo_symbol.specs.Bytes.{body_bytes, causes_bytes, content_bytes, defer_bytes, head_text, kind_text, marked_bytes, members_bytes, node_bytes, other_names_bytes, symbol_bytes}
+use Rattle.halo_symbol.specs.Bytes.{head_text, kind_text}
+use Rattle.halo_symbol.proofs.Then.{body_alone, body_then, causes_then, content_then, defer_then, marked_then, members_then, node_then, other_names_then, symbol_alone, symbol_then}
 use Rattle.halo_symbol.specs.Characters.{angle_close, angle_open, bar_text, brace_close, brace_open, caret, colon, comma, letter_D, letter_I, round_close, round_open, slash, square_close, square_open, stroke}
 use Rattle.halo_symbol.specs.Nesting.{nest, nest_body, nest_members}
 use Rattle.halo_symbol.specs.Proper.{AreProper, AreProperNames, IsPlainName, IsProper, IsProperBody, IsProperSymbol, IsProperVary}
@@ -127,7 +128,7 @@ bracketed room nests bytes rest inside has =
 
 mutual
   -- brackets nest no deeper in a member than there is room, and the room behind it is the same
-  node_within : (n : Node) (room : ℕ) (rest : List ℕ) → IsProper n → HasRoom room (node_bytes n rest)
+  node_within : (n : Node) (room : ℕ) (rest : List ℕ) → IsProper n → HasRoom room (node_then n rest)
       → (nest n ≤ room) × HasRoom room rest
   node_within (tree.life name) room rest proper has =
       (omega arith, pass room name rest (name_is_none name proper.0) has)
@@ -137,46 +138,46 @@ mutual
         (pass room years (angle_close ∷ rest) (number_is_none years proper) (skip room (angle_open ∷ []) _ refl has)),
   )
   node_within (last ms) room rest proper has =
-      bracketed room (nest_members ms) (members_bytes ms (round_close ∷ rest)) rest
+      bracketed room (nest_members ms) (members_then ms (round_close ∷ rest)) rest
       (λ inside. members_within ms (room - 1) (round_close ∷ rest) proper inside)
       (skip room bar_text _ refl has)
   node_within (at_least rank ms) room rest proper has =
-      bracketed room (nest_members ms) (members_bytes ms (round_close ∷ rest)) rest
+      bracketed room (nest_members ms) (members_then ms (round_close ∷ rest)) rest
       (λ inside. members_within ms (room - 1) (round_close ∷ rest) proper.1 inside)
       (skip room (slash ∷ []) _ refl (pass room rank _ (number_is_none rank proper.0) has))
   node_within (exactly rank ms) room rest proper has =
-      bracketed room (nest_members ms) (members_bytes ms (round_close ∷ rest)) rest
+      bracketed room (nest_members ms) (members_then ms (round_close ∷ rest)) rest
       (λ inside. members_within ms (room - 1) (round_close ∷ rest) proper.1 inside)
       (skip room (square_close ∷ slash ∷ []) _ refl
       (pass room rank _ (number_is_none rank proper.0) (skip room (square_open ∷ []) _ refl has)))
   node_within (group body) room rest proper has =
-      bracketed room (nest_body body) (body_bytes body (round_close ∷ rest)) rest
+      bracketed room (nest_body body) (body_then body (round_close ∷ rest)) rest
       (λ inside. body_within body (room - 1) (round_close ∷ rest) proper inside) has
 
   -- the same of a list
-  members_within : (ms : Members) (room : ℕ) (rest : List ℕ) → AreProper ms → HasRoom room (members_bytes ms rest)
+  members_within : (ms : Members) (room : ℕ) (rest : List ℕ) → AreProper ms → HasRoom room (members_then ms rest)
       → (nest_members ms ≤ room) × HasRoom room rest
   members_within (one m) room rest proper has = node_within m room rest proper has
   members_within (and m ms) room rest proper has =
-      let first = node_within m room (colon ∷ members_bytes ms rest) proper.0 has in
+      let first = node_within m room (colon ∷ members_then ms rest) proper.0 has in
       let others = members_within ms room rest proper.1 (skip room (colon ∷ []) _ refl first.1) in
       (omega (arith, first.0, others.0), others.1)
 
   -- the same of a body
-  body_within : (body : Body) (room : ℕ) (rest : List ℕ) → IsProperBody body → HasRoom room (body_bytes body rest)
+  body_within : (body : Body) (room : ℕ) (rest : List ℕ) → IsProperBody body → HasRoom room (body_then body rest)
       → (nest_body body ≤ room) × HasRoom room rest
   body_within (list ms) room rest proper has = members_within ms room rest proper has
   body_within (reversion ms ns) room rest proper has =
-      let first = members_within ms room (stroke ∷ members_bytes ns rest) proper.0 has in
+      let first = members_within ms room (stroke ∷ members_then ns rest) proper.0 has in
       let second = members_within ns room rest proper.1 (skip room (stroke ∷ []) _ refl first.1) in
       (omega (arith, first.0, second.0), second.1)
 
 -- the same of a list with a mark
 marked_within : (place : ℕ) (rank : List ℕ) (ms : Members) (room : ℕ) (rest : List ℕ) → IsNumber rank → AreProper ms
-    → HasRoom room (marked_bytes place rank ms rest) → nest_members ms ≤ room
+    → HasRoom room (marked_then place rank ms rest) → nest_members ms ≤ room
 marked_within zero rank (one m) room rest number proper has = (node_within m room (caret ∷ (rank ++ rest)) proper has).0
 marked_within zero rank (and m ms) room rest number proper has =
-    let first = node_within m room (caret ∷ (rank ++ (colon ∷ members_bytes ms rest))) proper.0 has in
+    let first = node_within m room (caret ∷ (rank ++ (colon ∷ members_then ms rest))) proper.0 has in
     let behind =
     skip room (colon ∷ []) _ refl (pass room rank _ (number_is_none rank number)
     (skip room (caret ∷ []) _ refl first.1)) in
@@ -184,13 +185,13 @@ marked_within zero rank (and m ms) room rest number proper has =
     omega (arith, first.0, others.0)
 marked_within (suc place) rank (one m) room rest number proper has = (node_within m room rest proper has).0
 marked_within (suc place) rank (and m ms) room rest number proper has =
-    let first = node_within m room (colon ∷ marked_bytes place rank ms rest) proper.0 has in
+    let first = node_within m room (colon ∷ marked_then place rank ms rest) proper.0 has in
     let others = marked_within place rank ms room rest number proper.1 (skip room (colon ∷ []) _ refl first.1) in
     omega (arith, first.0, others)
 
 -- the same of a body with the mark that it may have
 content_within : (mark : Option Mark) (body : Body) (room : ℕ) (rest : List ℕ) → IfSome mark (λ m. IsNumber m.rank)
-    → IsProperBody body → HasRoom room (content_bytes mark body rest) → nest_body body ≤ room
+    → IsProperBody body → HasRoom room (content_then mark body rest) → nest_body body ≤ room
 content_within None body room rest number proper has = (body_within body room rest proper has).0
 content_within (Some mark) (list ms) room rest number proper has =
     marked_within mark.member mark.rank ms room rest number proper has
@@ -214,14 +215,14 @@ head_is_none (decreasing count) kind proper =
 
 -- the room behind a deferral is the same
 pass_defer : (defer : Option (List ℕ)) (room : ℕ) (rest : List ℕ) → IfSome defer IsNumber
-    → HasRoom room (defer_bytes defer rest) → HasRoom room rest
+    → HasRoom room (defer_then defer rest) → HasRoom room rest
 pass_defer None room rest number has = has
 pass_defer (Some years) room rest number has =
     skip room (stroke ∷ []) rest refl (pass room years _ (number_is_none years number) has)
 
 -- and behind the names of a set
 pass_names : (names : List (List ℕ)) (room : ℕ) (rest : List ℕ) → All IsPlainName names
-    → HasRoom room (other_names_bytes names rest) → HasRoom room rest
+    → HasRoom room (other_names_then names rest) → HasRoom room rest
 pass_names [] room rest all has = has
 pass_names (name ∷ names) room rest all has =
     pass_names names room rest (All-tail IsPlainName name names all)
@@ -229,7 +230,7 @@ pass_names (name ∷ names) room rest all has =
 
 -- and behind the causes
 pass_causes : (causes : Option Names) (room : ℕ) (rest : List ℕ) → IfSome causes AreProperNames
-    → HasRoom room (causes_bytes causes rest) → HasRoom room rest
+    → HasRoom room (causes_then causes rest) → HasRoom room rest
 pass_causes None room rest proper has = has
 pass_causes (Some names) room rest proper has =
     skip room (brace_close ∷ []) rest refl
@@ -237,7 +238,7 @@ pass_causes (Some names) room rest proper has =
     (pass room names.first _ (name_is_none names.first proper.0.0) (skip room (brace_open ∷ []) _ refl has)))
 
 -- brackets nest no deeper in a symbol than there is room
-symbol_within : (s : Symbol) (room : ℕ) (rest : List ℕ) → IsProperSymbol s → HasRoom room (symbol_bytes s rest)
+symbol_within : (s : Symbol) (room : ℕ) (rest : List ℕ) → IsProperSymbol s → HasRoom room (symbol_then s rest)
     → nest_body s.body ≤ room
 symbol_within s room rest proper has =
     let head = pass_defer s.defer room _ proper.defer has in
@@ -291,10 +292,12 @@ line_within text l shallow spells = go l spells.proper spells.words_are
         let behind_pay = pass_word 16 text (codes "pay") _ e (text_is_none (codes "pay") refl) has in
         let behind_amount =
         pass_word 16 behind_pay.0 amount _ behind_pay.1 (number_is_none amount proper.0) behind_pay.2 in
-        symbol_within symbol 16 [] proper.1 (in_word 16 behind_amount.0 _ [] behind_amount.1 behind_amount.2)
+        symbol_within symbol 16 [] proper.1
+        (subst (HasRoom 16) (sym (symbol_alone symbol)) (in_word 16 behind_amount.0 _ [] behind_amount.1 behind_amount.2))
     go (premium status) proper e =
         let behind_premium = pass_word 16 text (codes "premium") _ e (text_is_none (codes "premium") refl) has in
-        (body_within status 16 [] proper (in_word 16 behind_premium.0 _ [] behind_premium.1 behind_premium.2)).0
+        (body_within status 16 [] proper
+        (subst (HasRoom 16) (sym (body_alone status)) (in_word 16 behind_premium.0 _ [] behind_premium.1 behind_premium.2))).0
     go (interest p q rates) proper e = omega arith
     go (life name table age) proper e = omega arith
     go (ties r) proper e = omega arith

@@ -79,7 +79,7 @@ no_ties depth words none line deep s = go line s.words_are
 -- behind `pay` a number and a symbol have to come
 pub no_pay : (depth : ℕ) (words : List (List ℕ))
     → ((amount : List ℕ) (symbol : Symbol) → nest_body symbol.body ≤ depth → IsNumber amount → IsProperSymbol symbol →
-    words ≡ amount ∷ symbol_bytes symbol [] ∷ [] → ⊥)
+    words ≡ amount ∷ symbol_bytes symbol ∷ [] → ⊥)
     → NoLineTo depth (keyword form.Pay ∷ words)
 unfolding NoLineTo
 no_pay depth words none line deep s = go line deep s.proper s.words_are
@@ -90,7 +90,7 @@ no_pay depth words none line deep s = go line deep s.proper s.words_are
 
 -- behind `premium` a status has to come
 pub no_premium : (depth : ℕ) (words : List (List ℕ))
-    → ((status : Body) → nest_body status ≤ depth → IsProperBody status → words ≡ body_bytes status [] ∷ [] → ⊥)
+    → ((status : Body) → nest_body status ≤ depth → IsProperBody status → words ≡ body_bytes status ∷ [] → ⊥)
     → NoLineTo depth (keyword form.Premium ∷ words)
 unfolding NoLineTo
 no_premium depth words none line deep s = go line deep s.proper s.words_are

@@ -48,13 +48,13 @@ same_words (ties r) (ties s) a b e = ap ties (rule_one r s (first_is (behind e))
 same_words (pay amount symbol) (pay other second) a b e =
     let first = first_is (behind e) in
     let same =
-    symbol_unique (symbol_bytes symbol []) symbol second (record {
+    symbol_unique (symbol_bytes symbol) symbol second (record {
       proper = a.1;
       bytes = refl;
     }) (record { proper = b.1; bytes = first_is (behind (behind e)) }) in
     cc
 same_words (premium status) (premium other) a b e =
-    ap premium (status_unique (body_bytes status []) status other (record {
+    ap premium (status_unique (body_bytes status) status other (record {
       proper = a;
       bytes = refl;
     }) (record { proper = b; bytes = first_is (behind e) }))

@@ -1,8 +1,6 @@
 -- Each call goes down in the tree, and what is written by parts is the text of the whole.
 use Rattle.std.proofs.Common.{◌≡◌, ◌<◌, [], ◌++◌, append_assoc, append-nil, ap, ◌∙◌, drop, arith, length, rules, inl, inr}
 use Rattle.std.proofs.lemmas.List.{drop_all}
-use Rattle.halo_symbol.specs.Bytes.{members_bytes}
-use Rattle.halo_symbol.specs.Tree.{reversion}
 use Rattle.std.proofs.lemmas.Result.{IfOk-equal}
 use Rattle.halo_status.proofs.NamedMembers.{nodes-at}
 use Rattle.halo_status.proofs.Lists.{nodes-After, nodes-list}
@@ -10,19 +8,13 @@ use Rattle.halo_status.proofs.LivesNamed.{names_below_first, names_below_members
 use Rattle.halo_contract.specs.PlainContract.{life_names}
 use Rattle.halo_status.proofs.Shapes.{tree_of-After, tree_of-AtLeast, tree_of-Exactly, tree_of-Last, tree_of-Life, tree_of-Term}
 use Rattle.halo_status.specs.StatusTree.{tree_of, trees_in}
-use Rattle.halo_symbol.specs.Characters.{round_close, stroke}
-use Rattle.halo_spell.specs.Canonical.{canonical_members, canonical_node, list_of}
 use Rattle.halo_spell.proofs.MembersLeft.{all_left, one_left, written_more}
 use Rattle.halo_spell.proofs.Positions.{bytes_at-after, bytes_at-at_least, bytes_at-exactly, bytes_at-last, bytes_at-life, bytes_at-term}
-use Rattle.halo_spell.proofs.Tails.{body_bytes-tail, members_bytes-tail}
 use Rattle.halo_spell.proofs.LivesBelow.{below_at, life_below, name_at-lives}
 use Rattle.halo_spell.proofs.status.+spelling.Goals as goal
 
 pub write_reversion-returns : goal.write_reversion-returns
-write_reversion-returns t c =
-    let a = list_of (canonical_node (life_names c.args.lives.now) (tree_of c.args.first.now)) in
-    let b = list_of (canonical_node (life_names c.args.lives.now) (tree_of c.args.then.now)) in
-    rw (members_bytes-tail a stroke (members_bytes b [])) (search (rules, IfOk-equal, append_assoc))
+write_reversion-returns t c = search (rules, IfOk-equal, append_assoc)
 
 pub write_members-write_status-requires : goal.write_members-write_status-requires
 write_members-write_status-requires t c = (
@@ -94,7 +86,6 @@ write_status-returns-in-Life t c =
       c.in-Life.is,
       tree_of-Life c.in-Life.i,
       bytes_at-life (life_names c.args.lives.now) c.args.position c.in-Life.i,
-      append-nil,
       ← name,
     ) c.write_bytes.ensures
 
@@ -134,8 +125,6 @@ write_status-returns-in_ok-write_bytes-in-Last t c =
       tree_of-Last c.in-Last.members,
       bytes_at-last (life_names c.args.lives.now) c.args.position
           (trees_in c.in-Last.members),
-      members_bytes-tail
-          (canonical_members (life_names c.args.lives.now) (trees_in c.in-Last.members)) round_close [],
     )
     (search (rules, IfOk-equal, append_assoc))
 
@@ -146,8 +135,6 @@ write_status-returns-in_ok-write_bytes-in-AtLeast t c =
       tree_of-AtLeast c.in-AtLeast.rank c.in-AtLeast.members,
       bytes_at-at_least
           (life_names c.args.lives.now) c.args.position c.in-AtLeast.rank (trees_in c.in-AtLeast.members),
-      members_bytes-tail (canonical_members (life_names c.args.lives.now) (trees_in c.in-AtLeast.members))
-          round_close [],
     ) (search (rules, IfOk-equal, append_assoc))
 
 pub write_status-returns-in_ok-write_bytes-in-Exactly : goal.write_status-returns-in_ok-write_bytes-in-Exactly
@@ -157,8 +144,6 @@ write_status-returns-in_ok-write_bytes-in-Exactly t c =
       tree_of-Exactly c.in-Exactly.rank c.in-Exactly.members,
       bytes_at-exactly
           (life_names c.args.lives.now) c.args.position c.in-Exactly.rank (trees_in c.in-Exactly.members),
-      members_bytes-tail (canonical_members (life_names c.args.lives.now) (trees_in c.in-Exactly.members))
-          round_close [],
     ) (search (rules, IfOk-equal, append_assoc))
 
 pub write_status-returns-in_ok-write_reversion-in_default-position :
@@ -174,5 +159,4 @@ write_status-returns-in_ok-write_reversion-in_default-position t c =
       c.in-After.is,
       tree_of-After c.in-After.first c.in-After.then,
       bytes_at-after names c.args.position a b c.in_default-position.not-Alone,
-      body_bytes-tail (reversion (list_of (canonical_node names a)) (list_of (canonical_node names b))) round_close [],
     ) (search (rules, IfOk-equal, append_assoc))
