@@ -23,12 +23,14 @@ use Rattle.halo_life.specs.PlainGroup.{IsGroup, PlainGroup, started, surviving, 
 use Rattle.halo_life.proofs.AlongTree.{started-is, survivors-is}
 use Rattle.halo_life.proofs.OneSet.{size-with}
 use Rattle.halo_life.proofs.Subsets.{has-bit, without-bit}
-use Rattle.halo_life.proofs.Within.{bit-below}
+use Rattle.halo_life.proofs.Within.{bit-below, less-within}
+use Rattle.halo_life.specs.YearOfLives.{HasSmaller}
 use Rattle.halo_life.proofs.YearChances.{joint-is, life-is}
 use Rattle.halo_compile.proofs.Tasks.{group-lives}
 use Rattle.halo_along.specs.Lives.{EncloseSurvival}
 use Rattle.halo_along.proofs.LivesAtTime.{survival-each}
 use Rattle.halo_endowment.specs.Endowment.{AreSurvivals, EnclosesEndowment}
+use Rattle.halo_endowment.specs.First.{IsByFirst}
 
 -- all of nobody survive
 pub survivors-of-nobody : (u n : ℕ) (lives : List PlainLife) → length lives ≡ n
@@ -100,6 +102,15 @@ module _ (b : Basis) (n T t : ℕ) (count : length b.lives ≡ n) where
 
         wide : 3 * (t - T) + 2 * size_of (bits n (mask - 2 ^ first)) + 1 + 1 ≡ 3 * (t - T) + 2 * size_of (bits n mask)
         wide = omega (arith, size-with n mask first below there)
+
+  -- and so by that of the others, told in lists
+  pub endowment-by-first : (mask : ℕ) → mask < 2 ^ n → (lives entries : List Ends) (r : Ends)
+      → IsByFirst lives mask entries r → AreSurvivals b n T t lives
+      → HasSmaller (EnclosesEndowment b n T t) mask entries → EnclosesEndowment b n T t mask r
+  endowment-by-first mask below lives entries r by are smaller =
+      endowment-with mask by.first below by.there (entry entries (mask - 2 ^ by.first)) (entry_at lives by.first) r
+      (smaller (mask - 2 ^ by.first) by.less (less-within n mask by.first below by.there))
+      (are by.first (bit-below n mask by.first below by.there)) by.product
 
 -- of a life that has a row, no more survive later
 pub survivors-fall : (n : ℕ) (g : PlainGroup) → IsGroup n g → (t i : ℕ) → g.start ≤ t → i < n

@@ -1,2 +1,4 @@
 -- The definitions of pure endowments.
 pub mod Endowment
+pub mod First
+pub mod Payments

@@ -1,21 +1,19 @@
 // The pure endowments of all sets within a set of lives.
-ghost use Rattle.std.specs.Prelude.{◌≡◌, ℕ, ◌+◌, ◌-◌, ◌^◌, ◌<◌, ◌≤◌, length, nat_lt, pos, true};
+ghost use Rattle.std.specs.Prelude.{◌≡◌, ℕ, ◌+◌, ◌-◌, ◌^◌, ◌<◌, ◌≤◌, nat_lt, pos};
 ghost use Rattle.halo_num.specs.Ends.{IsWithin, fine};
 ghost use Rattle.halo_interest.specs.Powers.{IsPower};
 ghost use Rattle.halo_sums.specs.Masks.{bits, has_bit};
 ghost use Rattle.halo_sums.specs.Sets.{size_of};
 ghost use Rattle.halo_model.specs.Basis.{Basis};
 ghost use Rattle.halo_model.specs.FromTables.{lives_of};
-ghost use Rattle.halo_chance.specs.Enclosed.{EachIsChance};
 ghost use Rattle.halo_life.specs.Lists.{entry};
 ghost use Rattle.halo_life.specs.PlainGroup.{survivors_in};
-ghost use Rattle.halo_life.specs.YearOfLives.{HasSmaller};
-ghost use Rattle.halo_endowment.specs.Endowment.{AreSurvivals, EnclosesEndowment, HoldEndowmentsOf};
+ghost use Rattle.halo_endowment.specs.Endowment.{HoldEndowmentsOf};
 
-use crate::sets::{first_of, without};
+use crate::first::with_first;
 use halo_along::survivals;
 use halo_interest::LAST_TIME;
-use halo_life::{Group, MOST_LIVES, Work};
+use halo_life::{Group, Work};
 use halo_num::{Ival, Steps};
 use halo_sums::next_within;
 use std::sync::ledger::Ledger;
@@ -57,28 +55,4 @@ pub fn endowments<const N: usize, const M: usize, L: Ledger>(
         let endowment = with_first(&lives, set, work, steps);
         work.put(set, endowment, work.minus(set));
     }
-}
-
-// The pure endowment of a set by that of the set without its first life, by the chances of the
-// lives to be alive then.
-fn with_first<const M: usize, L: Ledger>(
-    lives: &[Ival; MOST_LIVES],
-    set: u16,
-    work: &Work<M>,
-    steps: &mut Steps<L>,
-) -> Ival
-    requires sets { M ≤ 2 ^ MOST_LIVES }
-    requires some { 0 < set }
-    requires below { set < M }
-    requires chances { EachIsChance MOST_LIVES lives.now }
-    requires smaller { HasSmaller (λ part i. IsWithin i (pos 0) (pos fine)) set work.now.plus }
-    ensures within { IsWithin result (pos 0) (pos fine) }
-    ensures endowment { (b : Basis) (n T t : ℕ) → M ≡ 2 ^ n → length b.lives ≡ n →
-        AreSurvivals b n T t lives.now → HasSmaller (EnclosesEndowment b n T t) set work.now.plus →
-        EnclosesEndowment b n T t set result }
-    ensures cost { steps.new ≤ steps.old + 1 }
-{
-    let first = first_of(set);
-    let others = work.plus(without(set, first));
-    others.mul(lives[usize::from(first)], steps)
 }

@@ -6,9 +6,11 @@
 #![tactic(auto)]
 
 mod endowment;
+mod first;
 mod multiple;
 mod sets;
 
 pub use endowment::endowments;
-pub use multiple::payments;
+pub use first::with_first;
+pub use multiple::{payments, with_payments};
 pub use sets::{first_of, without};

@@ -1,7 +1,8 @@
-// Multiples of a chance.
+// Multiples of a chance, and values with some more.
 ghost use Rattle.std.specs.Prelude.{ℕ, ◌*◌, ◌^◌, ℤ, pos, ◌≤ℤ◌};
 ghost use Rattle.halo_num.specs.Ends.{HasWidth, IsWithin, fine};
 ghost use Rattle.halo_num.specs.Enclosure.{Encloses};
+ghost use Rattle.halo_endowment.specs.Payments.{AddsPayments};
 
 use halo_num::Ival;
 
@@ -19,4 +20,13 @@ pub fn payments(chance: Ival, count: u32) -> Ival
     }
     let _lowest = chance.lo();
     chance.scale(i64::from(count))
+}
+
+/// A value with so many payments with a chance more.
+pub fn with_payments(before: Ival, chance: Ival, count: u32) -> Ival
+    requires before { IsWithin before (pos 0) (pos (10 ^ 32)) }
+    requires chance { IsWithin chance (pos 0) (pos fine) }
+    ensures { AddsPayments count chance before result }
+{
+    before.add(payments(chance, count))
 }

@@ -24,13 +24,16 @@ use Rattle.halo_life.specs.PlainGroup.{IsGroup, PlainGroup, leavers_of_life, lea
 use Rattle.halo_life.proofs.AlongTree.{started-is, survivors-is}
 use Rattle.halo_life.proofs.OneSet.{size-of-lives, size-with}
 use Rattle.halo_life.proofs.Subsets.{has-bit, without-bit}
-use Rattle.halo_life.proofs.Within.{bit-below, inside}
+use Rattle.halo_life.proofs.Within.{bit-below, inside, less-within}
+use Rattle.halo_life.specs.Lists.{entry}
+use Rattle.halo_life.specs.YearOfLives.{HasSmaller}
 use Rattle.halo_life.proofs.YearChances.{group-splits, life-is}
 use Rattle.halo_insure.specs.Leavings.{counted_numbers, set_leavings}
 use Rattle.halo_chance.specs.Enclosed.{entry_at}
 use Rattle.halo_along.specs.Leavings.{EncloseLookedAt}
 use Rattle.halo_along.proofs.LookedAt.{looked-at-each}
 use Rattle.halo_insure.specs.OneLeaving.{AreThereWhenLeaving, EnclosesFalling, life_of_basis, there_when_leaving}
+use Rattle.halo_endowment.specs.First.{IsByFirst}
 use Rattle.halo_endowment.proofs.EndowmentsOfSets.{life-survives, size-of-nobody, survivors-fall, survivors-of-nobody, survivors-with}
 
 -- in the declared order a life has its number as its rank
@@ -256,3 +259,12 @@ module _ (b : Basis) (causes : ℕ → Bool) (n T a k : ℕ) (count : length b.l
         wide : 3 * (suc k - T) + 2 + 2 * size_of (bits n (mask - 2 ^ first)) + 1 + 1
             ≡ 3 * (suc k - T) + 2 + 2 * size_of (bits n mask)
         wide = omega (arith, size-with n mask first below there)
+
+  -- and so by that of the others, told in lists
+  pub falling-by-first : (mask : ℕ) → mask < 2 ^ n → (lives entries : List Ends) (r : Ends)
+      → IsByFirst lives mask entries r → AreThereWhenLeaving b n T a k lives
+      → HasSmaller (EnclosesFalling b causes n T a k) mask entries → EnclosesFalling b causes n T a k mask r
+  falling-by-first mask below lives entries r by are smaller =
+      falling-with mask by.first below by.there (entry entries (mask - 2 ^ by.first)) (entry_at lives by.first) r
+      (smaller (mask - 2 ^ by.first) by.less (less-within n mask by.first below by.there))
+      (are by.first (bit-below n mask by.first below by.there)) by.product

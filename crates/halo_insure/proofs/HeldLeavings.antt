@@ -31,7 +31,8 @@ use Rattle.halo_insure.specs.declared.sets.Year.{Year}
 use Rattle.halo_insure.specs.Dues.{due_of}
 use Rattle.halo_insure.specs.Leavings.{set_leavings, set_survivors}
 use Rattle.halo_insure.specs.OfTask.{HoldDuesOn, insured_basis}
-use Rattle.halo_insure.specs.OneLeaving.{EnclosesFalling, EnclosesLeavings, HoldFallings, HoldLeavings, IsPaidMore, IsPaidOnLeaving, life_of_basis, there_when_leaving}
+use Rattle.halo_endowment.specs.Payments.{AddsPayments}
+use Rattle.halo_insure.specs.OneLeaving.{EnclosesFalling, EnclosesLeavings, HoldFallings, HoldLeavings, IsPaidOnLeaving, life_of_basis, there_when_leaving}
 use Rattle.halo_insure.specs.OneSet.{most_due}
 use Rattle.halo_insure.specs.Total.{EnclosesSet}
 use Rattle.halo_insure.specs.YearOfTask.{IsYearOf}
@@ -149,7 +150,7 @@ module _ {n m : ℕ} (task : Task n m) (is : IsTask task) (group : IsGroup n tas
 
           set-later : (part : ℤ → ℕ) (chance now r : Ends)
               → EnclosesFalling b (asked pay.causes) n T a k others chance
-              → IsPaidMore (year.pays.payment * part (coefficient_at year.here.now mask)) chance now r
+              → AddsPayments (year.pays.payment * part (coefficient_at year.here.now mask)) chance now r
               → EnclosesLeavings part b pay a (bits n mask) T (k - T) now
               → EnclosesLeavings part b pay a (bits n mask) T (suc (k - T)) r
           set-later part chance now r falling paid held =

@@ -8,7 +8,7 @@ use Rattle.halo_num.proofs.Enclosures.{encloses_at}
 use Rattle.halo_model.specs.Basis.{Basis, accumulated}
 use Rattle.halo_compile.proofs.Sums.{wider}
 use Rattle.halo_insure.specs.declared.due.Due.{Due}
-use Rattle.halo_insure.specs.OneLeaving.{IsPaidMore}
+use Rattle.halo_endowment.specs.Payments.{AddsPayments}
 use Rattle.halo_insure.specs.OneSet.{EnclosesDues, most_due, worth_of_dues}
 
 module _ (b : Basis) (leaving alive : ℕ → ℕ) (due : ℕ → Due) where
@@ -76,7 +76,7 @@ module _ (b : Basis) (leaving alive : ℕ → ℕ) (due : ℕ → Due) where
 
     -- and one with so many payments more
     pub paid-later : (chance before r : Ends) (n e w c : ℕ) → EnclosesChance n e w chance
-        → IsPaidMore (due k).on_leaving chance before r
+        → AddsPayments (due k).on_leaving chance before r
         → product_over (numbers_from T (suc years)) b.q * leaving k * accumulated b (suc k) ≡ n * c
         → alive T * accumulated b T ≡ e * c
         → w ≤ suc years * (d + 3)

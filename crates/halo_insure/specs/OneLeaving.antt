@@ -1,12 +1,11 @@
 -- What falls on the leaving of one life for a set of lives, year by year, where the lives of one
 -- year leave in the declared order.
-use Rattle.std.specs.Prelude.{◌≡◌, ℕ, suc, ◌+◌, ◌-◌, ◌*◌, ◌^◌, ◌<◌, Bool, cond, nat_lt, true, List, get_or, ℤ, pos, ◌≤ℤ◌}
+use Rattle.std.specs.Prelude.{◌≡◌, ℕ, suc, ◌+◌, ◌-◌, ◌*◌, ◌^◌, ◌<◌, Bool, cond, nat_lt, true, List, get_or, ℤ}
 use Rattle.halo_sums.specs.Masks.{bits, has_bit}
 use Rattle.halo_sums.specs.Sets.{in_set, size_of}
 use Rattle.halo_sums.specs.Sums.{numbers_from, product_over}
 use Rattle.halo_num.specs.Chance.{EnclosesChance}
-use Rattle.halo_num.specs.Ends.{Ends, HasWidth, fine}
-use Rattle.halo_num.specs.Enclosure.{Encloses}
+use Rattle.halo_num.specs.Ends.{Ends}
 use Rattle.halo_status.specs.Pay.{PlainPay}
 use Rattle.halo_model.specs.Backward.{above_zero, below_zero}
 use Rattle.halo_model.specs.Basis.{Basis}
@@ -23,6 +22,7 @@ use Rattle.halo_chance.specs.Enclosed.{entry_at}
 use Rattle.halo_compile.specs.NamedSets.{AreNamed}
 use Rattle.halo_compile.specs.OfTask.{pay_of_task}
 use Rattle.halo_compile.specs.declared.task.Task.{Task}
+use Rattle.halo_endowment.specs.Payments.{AddsPayments}
 use Rattle.halo_insure.specs.declared.sets.Year.{Year}
 use Rattle.halo_insure.specs.Dues.{due_of}
 use Rattle.halo_insure.specs.Leavings.{set_leavings, set_survivors}
@@ -65,23 +65,14 @@ HoldFallings {n} task a k lists = (mask : ℕ) → mask < 2 ^ n → AreNamed (pa
     → EnclosesFalling (insured_basis task) (asked (pay_of_task task).causes) n
     task.group.now.start a k (mask - 2 ^ a) (entry lists.plus (mask - 2 ^ a))
 
--- so many payments with a chance are added
-pub record IsPaidMore (count : ℕ) (chance before result : Ends) : Type 0 where
-  pub from : pos 0 ≤ℤ result.lo
-  pub bound : (m : ℕ) → before.hi ≤ℤ pos (m * fine) → result.hi ≤ℤ pos ((m + count) * fine)
-  pub narrow : (v w : ℕ)
-      → HasWidth before v → HasWidth chance w → HasWidth result (v + count * w)
-  pub encloses : (m n d : ℕ) → Encloses before (pos m) d
-      → Encloses chance (pos n) d → Encloses result (pos (m + count * n)) d
-
 -- as many as are due for a set on the leaving of life a in a year, by the parts of its coefficient
 -- of either sign, with the chance that the entry of `plus` without the life tells
 pub record IsPaidOnLeaving {m : ℕ} (year : Year m) (a mask : ℕ) (before after : Lists)
     : Type 0 where
-  pub plus : IsPaidMore
+  pub plus : AddsPayments
       (year.pays.payment * above_zero (coefficient_at year.here.now mask))
       (entry before.plus (mask - 2 ^ a)) (entry before.plus mask) (entry after.plus mask)
-  pub minus : IsPaidMore
+  pub minus : AddsPayments
       (year.pays.payment * below_zero (coefficient_at year.here.now mask))
       (entry before.plus (mask - 2 ^ a)) (entry before.minus mask) (entry after.minus mask)
 

@@ -9,29 +9,26 @@ ghost use Rattle.halo_sums.specs.Within.{is_within};
 ghost use Rattle.halo_status.specs.declared.pay.Kind.TheVariants.{Insurance};
 ghost use Rattle.halo_contract.specs.declared.ties.Ties.TheVariants.{Declared};
 ghost use Rattle.halo_model.specs.Backward.{above_zero, below_zero};
-ghost use Rattle.halo_model.specs.Basis.{Basis};
 ghost use Rattle.halo_model.specs.SetValue.{can_fall_on_life, leaving_of};
 ghost use Rattle.halo_poly.specs.Poly.{coefficient_at};
-ghost use Rattle.halo_chance.specs.Enclosed.{EachIsChance};
 ghost use Rattle.halo_life.specs.Lists.{entry};
 ghost use Rattle.halo_life.specs.Total.{AreModestAt};
-ghost use Rattle.halo_life.specs.YearOfLives.{HasSmaller};
 ghost use Rattle.halo_compile.specs.NamedSets.{named_of_task};
 ghost use Rattle.halo_compile.specs.OfTask.{pay_of_task};
 ghost use Rattle.halo_compile.specs.ValidTask.{IsTask};
 ghost use Rattle.halo_along.specs.OfTask.{tree_task_of};
 ghost use Rattle.halo_along.specs.Years.{IsDiscount};
 ghost use Rattle.halo_insure.specs.OfTask.{HoldDuesOn};
-ghost use Rattle.halo_insure.specs.OneLeaving.{AreThereWhenLeaving, EnclosesFalling, HoldFallings, HoldLeavings, IsPaidMore, IsPaidOnLeaving};
+ghost use Rattle.halo_insure.specs.OneLeaving.{HoldFallings, HoldLeavings, IsPaidOnLeaving};
 
 use crate::due::{due_above, due_below};
 use crate::sets::{Year, clear_all};
 use crate::step::year_of;
 use halo_along::looked_at;
 use halo_compile::{MOST_PAID, Task};
-use halo_endowment::{first_of, payments, without};
+use halo_endowment::{with_first, with_payments, without};
 use halo_interest::LAST_TIME;
-use halo_life::{MOST_LIVES, Work};
+use halo_life::Work;
 use halo_num::{Ival, ONE_IN_FINE_UNITS, Steps};
 use halo_sums::{has_bit, next_within};
 use std::sync::ledger::Ledger;
@@ -136,30 +133,6 @@ fn fallings<const N: usize, const M: usize, L: Ledger>(
     }
 }
 
-// That value for a set by that of the set without its first life, by the chances of the lives to be
-// there.
-fn with_first<const M: usize, L: Ledger>(
-    lives: &[Ival; MOST_LIVES],
-    set: u16,
-    work: &Work<M>,
-    steps: &mut Steps<L>,
-) -> Ival
-    requires sets { M ≤ 2 ^ MOST_LIVES }
-    requires some { 0 < set }
-    requires below { set < M }
-    requires chances { EachIsChance MOST_LIVES lives.now }
-    requires smaller { HasSmaller (λ part i. IsWithin i (pos 0) (pos fine)) set work.now.plus }
-    ensures falling { (b : Basis) (causes : ℕ → Bool) (n T a k : ℕ) → M ≡ 2 ^ n →
-        length b.lives ≡ n → AreThereWhenLeaving b n T a k lives.now
-        → HasSmaller (EnclosesFalling b causes n T a k) set work.now.plus
-        → EnclosesFalling b causes n T a k set result }
-    ensures cost { steps.new ≤ steps.old + 1 }
-{
-    let first = first_of(set);
-    let others = work.plus(without(set, first));
-    others.mul(lives[usize::from(first)], steps)
-}
-
 // For each set within `named` with the life: what is paid on its leaving in the year if the others
 // of the set are there then, as the entry of `plus` without the life says, is added.
 fn pay_leavings<const M: usize>(work: &mut Work<M>, year: &Year<M>, life: u8, named: u16)
@@ -209,13 +182,4 @@ fn pay_leaving<const M: usize>(work: &mut Work<M>, year: &Year<M>, life: u8, set
     let plus = with_payments(work.plus(set), falling, above);
     let minus = with_payments(work.minus(set), falling, below);
     work.put(set, plus, minus);
-}
-
-// So many payments with a chance more.
-fn with_payments(before: Ival, chance: Ival, count: u32) -> Ival
-    requires before { IsWithin before (pos 0) (pos (10 ^ 32)) }
-    requires chance { IsWithin chance (pos 0) (pos fine) }
-    ensures { IsPaidMore count chance before result }
-{
-    before.add(payments(chance, count))
 }

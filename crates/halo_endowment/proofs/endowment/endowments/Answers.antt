@@ -6,7 +6,7 @@ use Rattle.halo_life.proofs.Filled.{filled-before, filled-next}
 use Rattle.halo_life.proofs.Within.{one-set-more, sets-up-to}
 use Rattle.halo_life.proofs.YearChances.{length-lives}
 use Rattle.halo_endowment.specs.Endowment.{EnclosesEndowment}
-use Rattle.halo_endowment.proofs.EndowmentsOfSets.{are-survivals, endowment-of-nobody, stays}
+use Rattle.halo_endowment.proofs.EndowmentsOfSets.{are-survivals, endowment-by-first, endowment-of-nobody, stays}
 use Rattle.halo_endowment.proofs.endowment.endowments.Goals as goal
 
 pub loop-set-init : goal.loop-set-init
@@ -73,8 +73,15 @@ loop-set-preserved g c =
           c.loop-set.work.plus next.within before in
           let are = are-survivals n now group c.args.t c.requires.from c.requires.living b of_group
           c.survivals-lives.result c.survivals-lives.ensures.survivals in
-          let endowment = first.endowment b n now.start c.args.t c.requires.sets
-          (ap (λ lives. length lives) of_group ∙ length-lives n now group) are smaller in
+          let endowment = endowment-by-first b n now.start c.args.t
+          (ap (λ lives. length lives) of_group ∙ length-lives n now group) c.next_within-set.result
+          (omega (
+            arith,
+            c.requires.sets,
+            c.requires.named,
+            within-below c.next_within-set.result c.args.named next.within,
+          ))
+          c.survivals-lives.result c.loop-set.work.plus c.with_first-endowment.result first.product are smaller in
           filled-next IsChance c.args.named set c.next_within-set.result next.later next.next
           c.loop-set.work.plus c.put-in-loop-set.new.self.plus c.with_first-endowment.result
           before endowment put.plus (λ mask other. (put.others mask other).0);

@@ -18,7 +18,7 @@ use Rattle.halo_compile.proofs.NamedSets.{all-named, named-size, named-within, s
 use Rattle.halo_compile.proofs.Tasks.{few-sets}
 use Rattle.halo_insure.specs.OneLeaving.{EnclosesFalling}
 use Rattle.halo_insure.specs.OfTask.{insured_basis}
-use Rattle.halo_insure.proofs.Fallings.{falling-alone, life-leaves, there-looked-at}
+use Rattle.halo_insure.proofs.Fallings.{falling-by-first, falling-alone, life-leaves, there-looked-at}
 use Rattle.halo_insure.proofs.Tasks.{lives-of-task}
 use Rattle.halo_insure.proofs.WithoutLife.{others-without, within-others}
 use Rattle.halo_insure.proofs.one_leaving.fallings.Goals as goal
@@ -111,6 +111,11 @@ with_first-falling-requires g c =
       ),
     )
 
+pub loop-set-smaller : goal.loop-set-smaller
+loop-set-smaller g c =
+    let next = c.next_within-set.ensures in
+    omega (arith, next.later, within-below c.next_within-set.result c.without-others.result next.within)
+
 pub put-requires-in-loop-set : goal.put-requires-in-loop-set
 put-requires-in-loop-set g c =
     let body = (pay_of c.args.task.now.pay.now).body in
@@ -150,8 +155,17 @@ loop-set-preserved g c =
     c.requires.life (omega (arith, same, c.requires.from))
     (λ i low. rw (at.file, at.lives, at.start) (at.alive i low)) b of_group c.looked_at-lives.result
     c.looked_at-lives.ensures.lives) in
-    let falling = c.with_first-falling.ensures.falling b causes g.row.N task.group.now.start life c.args.k
-    c.requires.task.sets (lives-of-task task c.start.ensures.group) there smaller in
+    let named = all-named c.lives.result (pay_of task.pay.now).body c.lives.ensures in
+    let below : c.next_within-set.result < 2 ^ g.row.N = omega (
+      arith,
+      c.requires.task.sets,
+      set-below task c.requires.task c.lives.result named,
+      others.smaller,
+      within-below c.next_within-set.result c.without-others.result next.within,
+    ) in
+    let falling = falling-by-first b causes g.row.N task.group.now.start life c.args.k
+    (lives-of-task task c.start.ensures.group) c.next_within-set.result below c.looked_at-lives.result
+    c.loop-set.work.plus c.with_first-falling.result c.with_first-falling.ensures.product there smaller in
     record {
       within = next.within;
       sets = filled-next IsChance c.without-others.result set c.next_within-set.result next.later next.next

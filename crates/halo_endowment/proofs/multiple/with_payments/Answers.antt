@@ -1,6 +1,6 @@
 use Rattle.std.proofs.Common.{arith, pos, ◌*◌}
 use Rattle.std.proofs.lemmas.Int.{ints}
-use Rattle.halo_insure.proofs.one_leaving.with_payments.Goals as goal
+use Rattle.halo_endowment.proofs.multiple.with_payments.Goals as goal
 
 pub returns : goal.returns
 returns c =

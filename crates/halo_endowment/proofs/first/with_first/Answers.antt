@@ -1,15 +1,12 @@
 use Rattle.std.proofs.Common.{◌≡◌, ◌∙◌, ℕ, ◌^◌, ◌<◌, ◌≤◌, List, ap, arith, get_or, length, pos, subst, sym}
 use Rattle.std.proofs.lemmas.Int.{ints}
-use Rattle.halo_num.specs.Chance.{EnclosesChance}
 use Rattle.halo_num.specs.Ends.{Ends, IsWithin, fine}
-use Rattle.halo_model.specs.OrderLaws.{no_life}
+use Rattle.halo_life.specs.Lists.{entry}
 use Rattle.halo_chance.specs.Enclosed.{entry_at}
 use Rattle.halo_chance.proofs.Tables.{entry-read}
 use Rattle.halo_life.proofs.OneSet.{chance-without}
 use Rattle.halo_life.proofs.Within.{bit-below}
-use Rattle.halo_endowment.specs.Endowment.{EnclosesEndowment}
-use Rattle.halo_endowment.proofs.EndowmentsOfSets.{endowment-with}
-use Rattle.halo_endowment.proofs.endowment.with_first.Goals as goal
+use Rattle.halo_endowment.proofs.first.with_first.Goals as goal
 
 -- the entry that is read is that of the life
 read : (lives : List Ends) (life place : ℕ) (r : Ends) → place ≡ life → 12 ≤ length lives → life < 12
@@ -60,18 +57,17 @@ returns-clause-within g c =
     c.index-lives-from.result c.from.ensures c.requires.chances.room low) (c.requires.chances.each first low) in
     c.mul.ensures.within rest.high chance.high
 
-pub returns-clause-endowment : goal.returns-clause-endowment
-returns-clause-endowment g c = λ b n T t sets count are smaller.
+pub returns-clause-product : goal.returns-clause-product
+returns-clause-product g c =
+    let below : c.args.set < 2 ^ 12 = omega (arith, c.requires.below, c.requires.sets) in
     let first = c.first_of-first.result in
     let there = c.first_of-first.ensures.within in
-    let most : c.args.set < 2 ^ 12 = omega (arith, c.requires.below, c.requires.sets) in
-    let below : c.args.set < 2 ^ n = omega (arith, c.requires.below, sets) in
-    let rest = chance-without n c.args.set first below there (EnclosesEndowment b n T t) c.args.work.now.plus
-    c.without.result c.plus-others.result smaller c.without.ensures.value c.without.ensures.smaller
-    c.plus-others.ensures in
-    let one = subst (λ (i : Ends). EnclosesChance ((get_or b.lives first no_life).survivors t)
-    ((get_or b.lives first no_life).survivors T) 1 i) (read c.args.lives.now first c.from.result
-    c.index-lives-from.result c.from.ensures c.requires.chances.room (bit-below 12 c.args.set first most there))
-    (are first (bit-below n c.args.set first below there)) in
-    endowment-with b n T t count c.args.set first below there c.plus-others.result _ c.mul.result rest one
-    c.mul.ensures.chance
+    let one = read c.args.lives.now first c.from.result c.index-lives-from.result c.from.ensures
+    c.requires.chances.room (bit-below 12 c.args.set first below there) in
+    let rest = c.plus-others.ensures ∙ ap (λ part. entry c.args.work.now.plus part) c.without.ensures.value in
+    record {
+      first = first;
+      there = there;
+      less = rw (← c.without.ensures.value) c.without.ensures.smaller;
+      product = λ k m d e v w others chance. c.mul.ensures.chance k m d e v w (rw rest others) (rw (← one) chance);
+    }
