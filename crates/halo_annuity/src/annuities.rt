@@ -1,5 +1,5 @@
 // Annuities of 1 at the start of a group.
-ghost use Rattle.std.specs.Prelude.{◌≢◌, ℕ, ◌+◌, ◌<◌, ◌≤◌, pos, ◌≤ℤ◌};
+ghost use Rattle.std.specs.Prelude.{◌≢◌, ℕ, ◌+◌, ◌^◌, ◌<◌, ◌≤◌, pos, ◌≤ℤ◌};
 ghost use Rattle.halo_num.specs.Ends.{fine};
 ghost use Rattle.halo_status.specs.declared.pay.Kind.TheVariants.{Insurance};
 ghost use Rattle.halo_life.specs.Total.{AreModestAt, total_of};
@@ -18,7 +18,7 @@ use crate::step::{at_horizon, year_back};
 use crate::value::value_at;
 use halo_along::{TreeTask, annuity_along};
 use halo_compile::Task;
-use halo_life::Work;
+use halo_life::{MOST_LIVES, Work};
 use halo_num::{Ival, Steps};
 use std::sync::ledger::Ledger;
 
@@ -44,7 +44,7 @@ pub fn annuity_all<const N: usize, const M: usize, L: Ledger>(
         EnclosesAnnuity task.now start alive (total_of work.new M named) }
     ensures modest { (set : ℕ) → set < M → AreNamed (pay_of task.now.pay.now).body set →
         AreModestAt set work.new }
-    ensures few { M ≤ 4096 }
+    ensures few { M ≤ 2 ^ MOST_LIVES }
     ensures cost { steps.new ≤ steps.old + products_of_pass task.now }
 {
     // The proof sees here that each year has a fraction, and that the lives have rows.

@@ -22,6 +22,7 @@ use Rattle.halo_life.specs.Total.{AreModestAt}
 use Rattle.halo_compile.specs.NamedSets.{AreNamed}
 use Rattle.halo_compile.proofs.Coefficients.{above-sized, below-sized, coefficient-sized}
 use Rattle.halo_along.proofs.Counting.{cond-within}
+use Rattle.halo_insure.specs.declared.due.TheConstants.{GREATEST_COEFFICIENT}
 use Rattle.halo_insure.specs.Dues.{coefficient_before, due_of, ends_count}
 use Rattle.halo_insure.specs.OneSet.{most_due}
 use Rattle.halo_insure.specs.Total.{HoldDues}
@@ -100,8 +101,7 @@ dues-modest b pay one varies in_time events n few t lists held mask below named 
         (horizon b.lives pay.body) s short (horizon b.lives pay.body - t) t (omega (arith, before, in_time)))
         (cases_lt (horizon b.lives pay.body) t)
 
--- a coefficient of a set of a group, with room
-pub coefficient-room : (pay : PlainPay) (t n mask : ℕ) → n ≤ 12 → IsSized (form pay t (bits n mask)) 4096
-coefficient-room pay t n mask few =
-    let h = coefficient-sized pay t (bits n mask) (omega (arith, few, length-bits n mask)) in
-    record { low = omega (arith, ints, h.low); high = omega (arith, ints, h.high) }
+-- the coefficient of a set of a group
+pub coefficient-within : (pay : PlainPay) (t n mask : ℕ) → n ≤ 12
+    → IsSized (form pay t (bits n mask)) GREATEST_COEFFICIENT
+coefficient-within pay t n mask few = coefficient-sized pay t (bits n mask) (omega (arith, few, length-bits n mask))

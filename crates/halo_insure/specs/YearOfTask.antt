@@ -9,6 +9,7 @@ use Rattle.halo_poly.specs.Poly.{coefficient_at}
 use Rattle.halo_compile.specs.OfTask.{pay_of_task}
 use Rattle.halo_compile.specs.declared.payment.TheConstants.{MOST_PAID}
 use Rattle.halo_compile.specs.declared.task.Task.{Task}
+use Rattle.halo_insure.specs.declared.due.TheConstants.{GREATEST_COEFFICIENT}
 use Rattle.halo_insure.specs.declared.sets.Year.{Year}
 use Rattle.halo_insure.specs.Dues.{coefficient_before}
 use Rattle.halo_insure.specs.OfTask.{insured_basis}
@@ -32,5 +33,7 @@ pub record IsYearOf {n m : ℕ} (task : Task n m) (k : ℕ) (ends : Bool) (year 
   pub next : (mask : ℕ) → mask < 2 ^ n
       → next_coefficient year mask
       ≡ coefficient_before (pay_of_task task) task.horizon (suc k) (bits n mask)
-  pub here_sized : (mask : ℕ) → mask < 2 ^ n → IsSized (coefficient_at year.here.now mask) 4096
-  pub next_sized : (mask : ℕ) → mask < 2 ^ n → IsSized (coefficient_at year.next.now mask) 4096
+  pub here_sized : (mask : ℕ) → mask < 2 ^ n
+      → IsSized (coefficient_at year.here.now mask) GREATEST_COEFFICIENT
+  pub next_sized : (mask : ℕ) → mask < 2 ^ n
+      → IsSized (coefficient_at year.next.now mask) GREATEST_COEFFICIENT

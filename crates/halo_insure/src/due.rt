@@ -9,6 +9,12 @@ use halo_compile::{MOST_PAID, factor};
 use halo_interest::LAST_TIME;
 use halo_status::Pay;
 
+/// The greatest size of a coefficient of a set of at most twelve lives: 2^11.
+pub(crate) const GREATEST_COEFFICIENT: u64 = 2048;
+
+/// The greatest size of what a coefficient loses with a year.
+pub(crate) const GREATEST_LOSS: u64 = 4096;
+
 /// What is due for a set at the end of a year: so many payments on a leaving, and so many on the
 /// end of a term if all of the set survive the year.
 #[derive(Clone, Copy)]
@@ -36,9 +42,9 @@ pub(crate) struct YearPays {
 
 /// How much of a coefficient is above 0.
 fn above(coefficient: i64) -> u32
-    requires { IsSized coefficient 8192 }
+    requires { IsSized coefficient GREATEST_LOSS }
     ensures part { result ≡ above_zero coefficient }
-    ensures small { result ≤ 8192 }
+    ensures small { result ≤ GREATEST_LOSS }
 {
     if coefficient > 0 {
         coefficient as u32
@@ -49,9 +55,9 @@ fn above(coefficient: i64) -> u32
 
 /// How much of a coefficient is below 0.
 fn below(coefficient: i64) -> u32
-    requires { IsSized coefficient 8192 }
+    requires { IsSized coefficient GREATEST_LOSS }
     ensures part { result ≡ below_zero coefficient }
-    ensures small { result ≤ 8192 }
+    ensures small { result ≤ GREATEST_LOSS }
 {
     if coefficient < 0 {
         -coefficient as u32
@@ -78,8 +84,8 @@ pub(crate) fn payment_in(pay: &Pay, k: u16) -> u32
 /// sign, and `lost` that of what the coefficient loses to the next year.
 fn due_from(year: YearPays, part: u32, lost: u32) -> Due
     requires payment { year.payment ≤ MOST_PAID }
-    requires part { part ≤ 8192 }
-    requires lost { lost ≤ 8192 }
+    requires part { part ≤ GREATEST_LOSS }
+    requires lost { lost ≤ GREATEST_LOSS }
     ensures on_leaving { result.on_leaving ≡ year.payment * part }
     ensures at_end { result.at_end ≡ cond year.ends (year.payment * lost) 0 }
 {
@@ -93,8 +99,8 @@ fn due_from(year: YearPays, part: u32, lost: u32) -> Due
 /// and `next` in the year after.
 pub(crate) fn due_above(year: YearPays, here: i64, next: i64) -> Due
     requires payment { year.payment ≤ MOST_PAID }
-    requires here { IsSized here 4096 }
-    requires next { IsSized next 4096 }
+    requires here { IsSized here GREATEST_COEFFICIENT }
+    requires next { IsSized next GREATEST_COEFFICIENT }
     ensures on_leaving { result.on_leaving ≡ year.payment * above_zero here }
     ensures at_end { result.at_end ≡ cond year.ends (year.payment * above_zero (here -ℤ next)) 0 }
 {
@@ -104,8 +110,8 @@ pub(crate) fn due_above(year: YearPays, here: i64, next: i64) -> Due
 /// What is due in a year by the coefficients below 0.
 pub(crate) fn due_below(year: YearPays, here: i64, next: i64) -> Due
     requires payment { year.payment ≤ MOST_PAID }
-    requires here { IsSized here 4096 }
-    requires next { IsSized next 4096 }
+    requires here { IsSized here GREATEST_COEFFICIENT }
+    requires next { IsSized next GREATEST_COEFFICIENT }
     ensures on_leaving { result.on_leaving ≡ year.payment * below_zero here }
     ensures at_end { result.at_end ≡ cond year.ends (year.payment * below_zero (here -ℤ next)) 0 }
 {

@@ -16,7 +16,7 @@ ghost use Rattle.halo_along.specs.Years.{IsDiscount};
 ghost use Rattle.halo_insure.specs.Ending.{HoldEndowments, IsPaidAtEnd};
 ghost use Rattle.halo_insure.specs.OfTask.{HoldDuesOn};
 
-use crate::due::{due_above, due_below};
+use crate::due::{GREATEST_COEFFICIENT, due_above, due_below};
 use crate::events::{Events, end_counts};
 use crate::sets::{Year, clear_all, next_coefficient};
 use crate::step::year_of;
@@ -100,9 +100,9 @@ fn pay_ends<const M: usize>(work: &mut Work<M>, year: &Year<M>, named: u16)
     requires below { named < M }
     requires payment { year.now.pays.payment ≤ MOST_PAID }
     requires here { (mask : ℕ) → is_within mask named ≡ true →
-        IsSized (coefficient_at year.now.here.now mask) 4096 }
+        IsSized (coefficient_at year.now.here.now mask) GREATEST_COEFFICIENT }
     requires next { (mask : ℕ) → is_within mask named ≡ true →
-        IsSized (coefficient_at year.now.next.now mask) 4096 }
+        IsSized (coefficient_at year.now.next.now mask) GREATEST_COEFFICIENT }
     requires endowments { (mask : ℕ) → is_within mask named ≡ true →
         IsWithin (entry work.old.plus mask) (pos 0) (pos fine) }
     ensures plus { (mask : ℕ) → is_within mask named ≡ true →
@@ -123,8 +123,8 @@ fn pay_ends<const M: usize>(work: &mut Work<M>, year: &Year<M>, named: u16)
 fn pay_end<const M: usize>(work: &mut Work<M>, year: &Year<M>, set: u16)
     requires set { set < M }
     requires payment { year.now.pays.payment ≤ MOST_PAID }
-    requires here { IsSized (coefficient_at year.now.here.now set) 4096 }
-    requires next { IsSized (coefficient_at year.now.next.now set) 4096 }
+    requires here { IsSized (coefficient_at year.now.here.now set) GREATEST_COEFFICIENT }
+    requires next { IsSized (coefficient_at year.now.next.now set) GREATEST_COEFFICIENT }
     requires endowment { IsWithin (entry work.old.plus set) (pos 0) (pos fine) }
     ensures plus { IsPaidAtEnd above_zero year.now set
         (entry work.old.plus set) (entry work.new.plus set) }

@@ -21,7 +21,7 @@ ghost use Rattle.halo_along.specs.Years.{IsDiscount};
 ghost use Rattle.halo_insure.specs.OfTask.{HoldDuesOn};
 ghost use Rattle.halo_insure.specs.OneLeaving.{HoldFallings, HoldLeavings, IsPaidOnLeaving};
 
-use crate::due::{due_above, due_below};
+use crate::due::{GREATEST_COEFFICIENT, due_above, due_below};
 use crate::sets::{Year, clear_all};
 use crate::step::year_of;
 use halo_along::looked_at;
@@ -140,7 +140,7 @@ fn pay_leavings<const M: usize>(work: &mut Work<M>, year: &Year<M>, life: u8, na
     requires life { life < 16 }
     requires payment { year.now.pays.payment ≤ MOST_PAID }
     requires here { (mask : ℕ) → is_within mask named ≡ true →
-        IsSized (coefficient_at year.now.here.now mask) 4096 }
+        IsSized (coefficient_at year.now.here.now mask) GREATEST_COEFFICIENT }
     requires chances { (mask : ℕ) → is_within mask named ≡ true → has_bit mask life ≡ true →
         IsWithin (entry work.old.plus (mask - 2 ^ life)) (pos 0) (pos fine) }
     requires modest { (mask : ℕ) → is_within mask named ≡ true → has_bit mask life ≡ true →
@@ -160,7 +160,7 @@ fn pay_leaving<const M: usize>(work: &mut Work<M>, year: &Year<M>, life: u8, set
     requires set { set < M }
     requires life { life < 16 }
     requires payment { year.now.pays.payment ≤ MOST_PAID }
-    requires here { IsSized (coefficient_at year.now.here.now set) 4096 }
+    requires here { IsSized (coefficient_at year.now.here.now set) GREATEST_COEFFICIENT }
     requires chance { has_bit set life ≡ true →
         IsWithin (entry work.old.plus (set - 2 ^ life)) (pos 0) (pos fine) }
     requires modest { has_bit set life ≡ true → AreModestAt set work.old }

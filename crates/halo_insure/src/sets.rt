@@ -9,7 +9,7 @@ ghost use Rattle.halo_life.specs.Total.{AreModest, AreModestAt};
 ghost use Rattle.halo_sums.specs.Sums.{numbers_from, sum_over};
 ghost use Rattle.halo_insure.specs.YearSets.{SetGoesBack, SetsGoBack, next_coefficient};
 
-use crate::due::{YearPays, due_above, due_below};
+use crate::due::{GREATEST_COEFFICIENT, YearPays, due_above, due_below};
 use crate::one_year::{Chances, value_back};
 use halo_compile::MOST_PAID;
 use halo_life::Work;
@@ -63,9 +63,9 @@ pub(crate) fn clear_all<const M: usize>(work: &mut Work<M>, named: u16)
 /// The coefficient of a set in the year after, and 0 where the form does not go on.
 pub(crate) fn next_coefficient<const M: usize>(year: &Year<M>, set: u16) -> i64
     requires set { set < M }
-    requires sized { IsSized (coefficient_at year.now.next.now set) 4096 }
+    requires sized { IsSized (coefficient_at year.now.next.now set) GREATEST_COEFFICIENT }
     ensures value { result ≡ next_coefficient year.now set }
-    ensures sized { IsSized result 4096 }
+    ensures sized { IsSized result GREATEST_COEFFICIENT }
 {
     if year.goes_on {
         year.next.coefficient(set)
@@ -96,8 +96,8 @@ fn set_back<const M: usize, L: Ledger>(
     requires set { set < M }
     requires discount { IsWithin year.now.discount (pos 0) (pos fine) }
     requires payment { year.now.pays.payment ≤ MOST_PAID }
-    requires here { IsSized (coefficient_at year.now.here.now set) 4096 }
-    requires next { IsSized (coefficient_at year.now.next.now set) 4096 }
+    requires here { IsSized (coefficient_at year.now.here.now set) GREATEST_COEFFICIENT }
+    requires next { IsSized (coefficient_at year.now.next.now set) GREATEST_COEFFICIENT }
     requires leaving { IsWithin (entry work.old.leavings set) (pos 0) (pos fine) }
     requires survival { IsWithin (entry work.old.survivals set) (pos 0) (pos fine) }
     requires modest { AreModestAt set work.old }
@@ -141,9 +141,9 @@ pub(crate) fn sets_back<const M: usize, L: Ledger>(
     requires discount { IsWithin year.now.discount (pos 0) (pos fine) }
     requires payment { year.now.pays.payment ≤ MOST_PAID }
     requires here { (mask : ℕ) → is_within mask named ≡ true →
-        IsSized (coefficient_at year.now.here.now mask) 4096 }
+        IsSized (coefficient_at year.now.here.now mask) GREATEST_COEFFICIENT }
     requires next { (mask : ℕ) → is_within mask named ≡ true →
-        IsSized (coefficient_at year.now.next.now mask) 4096 }
+        IsSized (coefficient_at year.now.next.now mask) GREATEST_COEFFICIENT }
     requires leavings { (mask : ℕ) → is_within mask named ≡ true →
         IsWithin (entry work.old.leavings mask) (pos 0) (pos fine) }
     requires survivals { (mask : ℕ) → is_within mask named ≡ true →

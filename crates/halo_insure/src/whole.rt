@@ -1,5 +1,5 @@
 // The whole value of an insurance of 1 at the start of a group.
-ghost use Rattle.std.specs.Prelude.{◌≡◌, ℕ, ◌+◌, ◌<◌, ◌≤◌, None};
+ghost use Rattle.std.specs.Prelude.{◌≡◌, ℕ, ◌+◌, ◌^◌, ◌<◌, ◌≤◌, None};
 ghost use Rattle.halo_status.specs.declared.pay.Kind.TheVariants.{Insurance};
 ghost use Rattle.halo_sums.specs.Masks.{has_bit};
 ghost use Rattle.halo_status.specs.Pay.{pay_of};
@@ -21,7 +21,7 @@ use crate::pass::pass;
 use crate::value::value_at;
 use halo_along::{TreeTask, insurance_along, value_along};
 use halo_compile::Task;
-use halo_life::Work;
+use halo_life::{MOST_LIVES, Work};
 use halo_num::{Ival, Steps};
 use std::sync::ledger::Ledger;
 
@@ -47,7 +47,7 @@ pub fn insurance_all<const N: usize, const M: usize, L: Ledger>(
         start alive (total_of work.new M named) }
     ensures modest { (set : ℕ) → set < M → AreNamed (pay_of task.now.pay.now).body set →
         AreModestAt set work.new }
-    ensures few { M ≤ 4096 }
+    ensures few { M ≤ 2 ^ MOST_LIVES }
     ensures cost { steps.new ≤ steps.old + products_of_pass task.now }
 {
     // The proof sees here that there are few lives.

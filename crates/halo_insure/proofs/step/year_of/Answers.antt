@@ -2,7 +2,7 @@ use Rattle.std.proofs.Common.{lit<, refl}
 use Rattle.halo_status.specs.Pay.{pay_of}
 use Rattle.halo_compile.specs.OfTask.{pay_of_task}
 use Rattle.halo_compile.proofs.Coefficients.{coefficients-of-one}
-use Rattle.halo_insure.proofs.Small.{coefficient-room}
+use Rattle.halo_insure.proofs.Small.{coefficient-within}
 use Rattle.halo_insure.proofs.Tasks.{has-form, next-of-form}
 use Rattle.halo_insure.proofs.step.year_of.Goals as goal
 
@@ -31,8 +31,8 @@ returns g c =
       here = here;
       next = next-of-form task c.args.k c.next_time.result c.goes_on.result c.at-2.result.now later c.goes_on.ensures
           c.next_time.ensures.next;
-      here_sized = λ mask below. rw (here mask below) (coefficient-room (pay_of_task task) c.args.k g.row.N mask few);
+      here_sized = λ mask below. rw (here mask below) (coefficient-within (pay_of_task task) c.args.k g.row.N mask few);
       next_sized = λ mask below.
           rw (coefficients-of-one (pay_of task.pay.now) g.row.N c.next_time.result c.at-2.result.now later mask below)
-          (coefficient-room (pay_of_task task) c.next_time.result g.row.N mask few);
+          (coefficient-within (pay_of_task task) c.next_time.result g.row.N mask few);
     }
