@@ -185,3 +185,20 @@ count-has-room n m w few some alone h =
     let d : 14 * m.horizon * rest ≤ 6 * ((m.nodes + 1) ^ 2 * (m.horizon + m.named + 3)) * rest =
     mul-le-mul_right rest (omega (arith, c)) in
     rw alone (omega (arith, a, b, d))
+
+-- and for the payments at the times of one segment, each by pure endowments of up to twelve lives
+pub payments-have-room : (m : Measures) (n last paid times : ℕ) → n ≤ 12 → 1 ≤ m.nodes → m.share ≡ 1
+    → last ≤ m.horizon → paid ≤ (m.horizon + 1) * m.factor → times ≤ m.weight
+    → paid * (3 * last + 2 * n) * times ≤ width_count m
+unfolding width_count
+payments-have-room m n last paid times few some alone to most sized =
+    let two : 2 ≤ m.nodes + 1 = omega arith in
+    let square : 2 ^ 2 ≤ (m.nodes + 1) ^ 2 = pow-le-pow_left two 2 in
+    let one : 3 * last + 2 * n ≤ 24 * (m.horizon + m.named + 3) = omega (arith, to, few) in
+    let each : paid * (3 * last + 2 * n) ≤ (m.horizon + 1) * m.factor * (24 * (m.horizon + m.named + 3)) =
+    mul-le _ _ _ _ most one in
+    let all : paid * (3 * last + 2 * n) * times
+    ≤ (m.horizon + 1) * m.factor * (24 * (m.horizon + m.named + 3)) * m.weight = mul-le _ _ _ _ each sized in
+    let rest : ℕ = 6 * m.weight * (m.horizon + 1) * (m.horizon + m.named + 3) * m.factor in
+    let room : 4 * rest ≤ (m.nodes + 1) ^ 2 * rest = mul-le-mul_right rest (omega (arith, square)) in
+    rw alone (omega (arith, all, room))

@@ -15,3 +15,5 @@ pub mod RunWorths
 pub mod Terms
 pub mod AtTimes
 pub mod NamedSets
+pub mod Payments
+pub mod Scaled

@@ -37,9 +37,10 @@ use Rattle.halo_annuity.specs.Worth.{Carries, EnclosesCarried, EnclosesSet, paid
 use Rattle.halo_annuity.proofs.Carried.{carried-set, paid-set}
 use Rattle.halo_along.proofs.Counting.{paid-within, share-of-annuity}
 use Rattle.halo_along.proofs.Whole.{most-is}
-use Rattle.halo_annuity.proofs.Counting.{count-has-room, most-together, sizes-within, waited-together}
+use Rattle.halo_annuity.proofs.Counting.{count-has-room, most-together, payments-have-room, sizes-within, waited-together}
 use Rattle.halo_annuity.proofs.Modest.{factor-sized, most-small, small-within}
 use Rattle.halo_annuity.proofs.Passes.{none-worth}
+use Rattle.halo_annuity.proofs.Payments.{sum-most}
 use Rattle.halo_compile.proofs.Coefficients.{parts-size}
 
 -- whether a time is one of the run
@@ -258,3 +259,27 @@ module _ (b : Basis) (pay : PlainPay) (annual : pay.kind ≢ Insurance)
       (λ (k : ℕ) u. paid_in pay run times u) bound (suc run.last) 0 (λ u from below. each u (omega arith)) in
       let m : suc run.last * bound ≤ (years + 1) * bound = mul-le-mul_right bound (omega (arith, to-years)) in
       rw (most-is pay.kind annual (measures_of b pay), count) (omega (arith, w, m))
+
+  -- the same of the payments by pure endowments
+  paid-in-run : sum_over (times_of run) (paid_at pay 0) ≤ (years + 1) * greatest_factor pay.vary years
+  paid-in-run =
+      let each = sum-most (paid_at pay 0) (greatest_factor pay.vary years) (suc run.last - run.first) run.first
+      (λ t from below. paid-within pay one 0 t years (omega (arith, below, to-years))) in
+      let m : (suc run.last - run.first) * greatest_factor pay.vary years
+      ≤ (years + 1) * greatest_factor pay.vary years =
+      mul-le-mul_right (greatest_factor pay.vary years) (omega (arith, to-years)) in
+      omega (arith, each, m)
+
+  pub payments-narrow : n ≤ 12
+      → sum_over (times_of run) (paid_at pay 0) * (3 * run.last + 2 * n) * times ≤ width_count (measures_of b pay)
+  payments-narrow few =
+      payments-have-room (measures_of b pay) n run.last (sum_over (times_of run) (paid_at pay 0)) times few
+      some_nodes (share-of-annuity b.ties pay.kind _ annual) to-years paid-in-run (rw count times-within)
+
+  pub payments-sized : sum_over (times_of run) (paid_at pay 0) * times
+      ≤ form_weight pay (length b.lives) years * most_worth pay.kind (measures_of b pay)
+  payments-sized =
+      let all : sum_over (times_of run) (paid_at pay 0) * times
+      ≤ (years + 1) * greatest_factor pay.vary years * form_weight pay n years =
+      mul-le _ _ _ _ paid-in-run times-within in
+      rw (most-is pay.kind annual (measures_of b pay), count) (omega (arith, all))

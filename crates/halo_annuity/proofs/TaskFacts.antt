@@ -1,11 +1,11 @@
 -- What a valid task says of its numbers, its lives and its pay.
-use Rattle.std.proofs.Common.{◌≡◌, ◌^◌, ℕ, ◌+◌, ◌*◌, ◌<◌, ◌≤◌, List, Bool, cond, false, arith, refl, ⊎_elim}
+use Rattle.std.proofs.Common.{◌≡◌, ◌^◌, ℕ, ◌+◌, ◌*◌, ◌<◌, ◌≤◌, List, length, Bool, cond, false, arith, refl, ap, ⊎_elim}
 use Rattle.std.proofs.Math.Nat.{mul-le-mul_right}
 use Rattle.std.proofs.lemmas.Bool.{cases_lt}
 use Rattle.std.proofs.lemmas.Nat.{mul-le}
 use Rattle.halo_status.specs.Tree.{Tree}
 use Rattle.halo_status.specs.Nodes.{HasPositiveRanks}
-use Rattle.halo_status.specs.Pay.{PlainPay}
+use Rattle.halo_status.specs.Pay.{PlainPay, pay_of}
 use Rattle.halo_status.specs.ValidPay.{IsValidPay}
 use Rattle.halo_status.specs.declared.pay.Kind.{Kind}
 use Rattle.halo_status.specs.declared.pay.Kind.TheVariants.{Insurance, Due, Immediate}
@@ -17,7 +17,12 @@ use Rattle.halo_model.specs.Backward.{may_pay, paid_at, years_passed}
 use Rattle.halo_model.proofs.HorizonIsLeast.{horizon-is-least}
 use Rattle.halo_life.specs.Lists.{Lists}
 use Rattle.halo_life.specs.Total.{AreModestAt}
+use Rattle.halo_compile.specs.Form.{segment_at}
 use Rattle.halo_compile.specs.NamedSets.{AreNamed}
+use Rattle.halo_compile.specs.ValidTask.{IsTask}
+use Rattle.halo_compile.specs.declared.form.Segment.{Segment}
+use Rattle.halo_compile.specs.declared.task.Task.{Task}
+use Rattle.halo_compile.proofs.Times.{segment-in-form}
 use Rattle.halo_model.proofs.RanksAsk.{ranks-ask}
 use Rattle.halo_annuity.proofs.Counting.{never-before}
 
@@ -29,6 +34,18 @@ pub last-in : (kind : Kind) (years : ℕ) → last_time_of_form kind years ≤ y
 last-in Insurance years = omega arith
 last-in Due years = omega arith
 last-in Immediate years = omega arith
+
+-- a segment of the form has times, all of them within the horizon
+pub segment-in-time : {n m : ℕ} (task : Task n m) → IsTask task → (place : ℕ) → place < length task.form.now
+    → ((segment_at task.form.now place).from ≤ (segment_at task.form.now place).to)
+    × ((segment_at task.form.now place).to ≤ task.horizon)
+segment-in-time {n} task is place there =
+    let run = segment-in-form (pay_of task.pay.now) n task.horizon place task.form.now is.form there in
+    (run.some, omega (arith, run.to, last-in task.pay.now.kind task.horizon))
+
+-- two segments that are one have the same times
+pub same-times : {m : ℕ} {r s : Segment m} → r ≡ s → (r.from ≡ s.from) × (r.to ≡ s.to)
+same-times e = (ap (λ s. s.from) e, ap (λ s. s.to) e)
 
 -- where something is paid the form has begun
 cond-none : (may : Bool) (n : ℕ) → may ≡ false → cond may n 0 ≡ 0

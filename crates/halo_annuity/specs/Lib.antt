@@ -5,3 +5,4 @@ pub mod Bounds
 pub mod SetProduct
 pub mod RunWorth
 pub mod AtTime
+pub mod Payments

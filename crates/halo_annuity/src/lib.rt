@@ -14,12 +14,14 @@ mod annuities;
 mod carry;
 mod coefficient;
 mod one_set;
+mod paid;
 mod sets;
 mod step;
 mod term;
 mod value;
 
 pub use annuities::{annuity, annuity_all};
+pub use paid::pay_segment;
 pub use step::{at_horizon, year_back};
-pub use term::{MOST_PART, term_value};
+pub use term::{MOST_PART, term_of_paid, term_value};
 pub use value::value_at;

@@ -6,12 +6,14 @@ ghost use Rattle.halo_status.specs.Pay.{pay_of};
 ghost use Rattle.halo_compile.specs.Form.{IsInForm};
 ghost use Rattle.halo_compile.specs.ValidTask.{IsTask};
 ghost use Rattle.halo_annuity.specs.Bounds.{IsWithinCount, IsWithinWeightedMost};
+ghost use Rattle.halo_annuity.specs.Payments.{ArePaidInSegment};
 ghost use Rattle.halo_annuity.specs.RunWorth.{EnclosesPart, EnclosesRun, run_from};
 
 use crate::carry::carried;
 use crate::coefficient::{GREATEST_COEFFICIENT, above_zero, below_zero, ones};
 use crate::one_set::year;
 use halo_compile::{Task, paid_at};
+use halo_life::Work;
 use halo_num::{Ival, Steps};
 use std::sync::ledger::Ledger;
 
@@ -55,6 +57,37 @@ pub fn term_value<const N: usize, const M: usize, L: Ledger>(
     } else {
         worth
     }
+}
+
+/// The same, by what all sets are paid in the segment, which `pay_segment` finds at once: no
+/// product is made.
+pub fn term_of_paid<const N: usize, const M: usize>(
+    task: &Task<N, M>,
+    segment: usize,
+    set: u16,
+    work: &Work<M>,
+) -> Ival
+    requires task { IsTask task.now }
+    requires annuity { task.now.pay.now.kind ≢ Insurance }
+    requires segment { segment < length task.now.form.now }
+    requires set { set < M }
+    requires paid { ArePaidInSegment task.now segment work.now }
+    ensures encloses { EnclosesPart task.now segment set result }
+    ensures narrow { IsWithinCount task.now result }
+    ensures sized { IsWithinWeightedMost task.now result }
+    ensures small { IsWithin result (neg_ℤ (pos (MOST_PART * fine))) (pos (MOST_PART * fine)) }
+{
+    // The proof sees here that each year has a fraction, that the lives have rows, and that the
+    // ends are in order.
+    let _fractions = task.interest.fractions();
+    let _start = task.group.start();
+    let coefficient = task.form.segment(segment).poly.coefficient(set);
+    if coefficient == 0 {
+        return Ival::exact(0);
+    }
+    let paid = work.minus(set);
+    let _lowest = paid.lo();
+    paid.scale(coefficient)
 }
 
 // What so many times the payments of an annuity at the times `from` to `to` are worth at time 0,
