@@ -154,6 +154,6 @@ fn parts_of_pay<const N: usize, const M: usize, L: Ledger>(
     };
     match pay.kind {
         Kind::Insurance => parts_of_insurance(alloc, &task, work, steps),
-        Kind::Immediate | Kind::Due => parts_of_annuity(alloc, &task, sets, steps),
+        Kind::Immediate | Kind::Due => parts_of_annuity(alloc, &task, sets, work, steps),
     }
 }

@@ -8,12 +8,14 @@ ghost use Rattle.halo_compile.specs.Form.{run_of, segment_at};
 ghost use Rattle.halo_compile.specs.OfTask.{basis_of_task};
 ghost use Rattle.halo_compile.specs.ValidTask.{IsTask};
 ghost use Rattle.halo_compile.specs.Order.{AreSetsInOrder};
+ghost use Rattle.halo_annuity.specs.Payments.{ArePaidInSegment};
 ghost use Rattle.halo_lines.specs.Parts.{ExplainsPay, IsPrintablePart};
 ghost use Rattle.halo_value.specs.Explained.{AddsParts};
 
 use crate::Memory;
-use halo_annuity::term_value;
+use halo_annuity::{pay_segment, term_of_paid};
 use halo_compile::Task;
+use halo_life::Work;
 use halo_lines::{Part, part_line};
 use halo_num::Steps;
 use std::alloc::Global;
@@ -25,6 +27,7 @@ pub fn parts_of_annuity<const N: usize, const M: usize, L: Ledger>(
     alloc: Global,
     task: &Task<N, M>,
     sets: &[u16],
+    work: &mut Work<M>,
     steps: &mut Steps<L>,
 ) -> Result<Vec<Part>, Memory>
     requires task { IsTask task.now }
@@ -37,7 +40,7 @@ pub fn parts_of_annuity<const N: usize, const M: usize, L: Ledger>(
     let _start = task.group.start();
     let mut parts = Vec::new(alloc);
     for segment in 0..task.form.segments().len() {
-        push_segment(task, segment, sets, &mut parts, steps)?;
+        push_segment(task, segment, sets, work, &mut parts, steps)?;
     }
     Ok(parts)
 }
@@ -47,6 +50,7 @@ fn push_segment<const N: usize, const M: usize, L: Ledger>(
     task: &Task<N, M>,
     segment: usize,
     sets: &[u16],
+    work: &mut Work<M>,
     into: &mut Vec<Part>,
     steps: &mut Steps<L>,
 ) -> Result<(), Memory>
@@ -60,24 +64,26 @@ fn push_segment<const N: usize, const M: usize, L: Ledger>(
         into.old.items into.new.items) }
 {
     let _start = task.group.start();
+    pay_segment(task, segment, work, steps);
     for set in sets {
-        push_term(task, segment, *set, into, steps)?;
+        push_term(task, segment, *set, work, into)?;
     }
     Ok(())
 }
 
 // Adds the part of a set in a segment, if it has a coefficient there.
-fn push_term<const N: usize, const M: usize, L: Ledger>(
+fn push_term<const N: usize, const M: usize>(
     task: &Task<N, M>,
     segment: usize,
     set: u16,
+    work: &Work<M>,
     into: &mut Vec<Part>,
-    steps: &mut Steps<L>,
 ) -> Result<(), Memory>
     requires task { IsTask task.now }
     requires annuity { task.now.pay.now.kind ≢ Insurance }
     requires segment { segment < length task.now.form.now }
     requires set { set < M }
+    requires paid { ArePaidInSegment task.now segment work.now }
     ensures { OnOk result (AddsParts N
         (basis_of_task task.now task.now.group.now.ties) (pay_of task.now.pay.now)
         (parts_by_sets (pay_of task.now.pay.now)
@@ -90,7 +96,7 @@ fn push_term<const N: usize, const M: usize, L: Ledger>(
     if coefficient == 0 {
         return Ok(());
     }
-    let value = term_value(task, segment, set, steps);
+    let value = term_of_paid(task, segment, set, work);
     into.push(Part::Term {
         from: run.from,
         to: run.to,

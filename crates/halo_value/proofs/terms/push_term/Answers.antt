@@ -19,7 +19,8 @@ returns g c =
     part-added c.args.task.now c.requires.task c.start-start.ensures.group c.args.segment c.args.set
     c.requires.segment c.requires.set c.segment-run.result.now c.segment-run.ensures
     c.coefficient-coefficient.result c.coefficient-coefficient.ensures.value (λ zero. absurd (omega (arith, ints)))
-    c.term_value-value.result c.term_value-value.ensures.encloses c.term_value-value.ensures.narrow c.part_line.result
+    c.term_of_paid-value.result c.term_of_paid-value.ensures.encloses c.term_of_paid-value.ensures.narrow
+    c.part_line.result
     (λ part one. c.part_line.ensures.line (basis_of_task c.args.task.now c.args.task.now.group.now.ties)
     (pay_of c.args.task.now.pay.now) part refl one) c.part_line.ensures.printable
     (subst (λ (k : ℕ). c.args.set < k) c.requires.task.sets c.requires.set) c.args.into.now.items c.push.new.self.items
