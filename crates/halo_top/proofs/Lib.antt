@@ -2,6 +2,7 @@ mod Arguments
 mod Calls
 mod CompiledForms
 mod Files
+mod Loads
 mod OneAnswer
 mod Runs
 mod Samples

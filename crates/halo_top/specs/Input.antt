@@ -7,10 +7,12 @@ use Rattle.halo_table.specs.DecrementTable.{TableFile}
 use Rattle.halo_table.specs.Faults.{IsFirstFault, NoFault}
 use Rattle.halo_table.specs.Grouping.{tables_of}
 use Rattle.halo_table.specs.declared.fault.TableFault.{TableFault}
+use Rattle.halo_table.specs.declared.held.TheConstants.{LONGEST_FILE}
 use Rattle.halo_contract.specs.PlainContract.{PlainContract, contract_of}
 use Rattle.halo_contract.specs.declared.contract.Contract.{Contract}
 use Rattle.halo_parse.specs.Faults.{IsContractFault, WritesContract}
 use Rattle.halo_parse.specs.declared.fault.ContractFault.{ContractFault}
+use Rattle.halo_top.specs.declared.refusal.TheConstants.{LONGEST_CONTRACT}
 use Rattle.halo_top.specs.declared.refusal.InputFile.{InputFile}
 use Rattle.halo_top.specs.declared.refusal.InputFile.TheVariants as file
 use Rattle.halo_top.specs.declared.refusal.Refusal.TheVariants as refusal
@@ -19,8 +21,8 @@ use Rattle.halo_top.specs.declared.refusal.Stop.TheVariants as stop
 
 -- the greatest number of bytes of a file
 abbrev pub limit_of : InputFile → ℕ
-limit_of file.Tables = 16777216
-limit_of file.Contract = 65536
+limit_of file.Tables = LONGEST_FILE
+limit_of file.Contract = LONGEST_CONTRACT
 
 -- the bytes of a tables file are few enough, and their records have no fault
 pub record AreTables (bytes : List ℕ) : Type 0 where

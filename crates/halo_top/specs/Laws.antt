@@ -12,6 +12,7 @@ use Rattle.halo_top.specs.Input.{HasTables}
 use Rattle.halo_top.specs.Sample.{SampleHolds, TellsSample}
 use Rattle.halo_top.specs.Verdict.{AreWritten, CallsFor, IsTextOf, ReadsAll, Shelved}
 use Rattle.halo_top.specs.declared.command.Task.{Task}
+use Rattle.halo_top.specs.declared.status.TheConstants.{FINE}
 
 -- two texts are what one task writes of the one contract in the files: for `check` they are equal,
 -- for `value` both are reports that enclose what the contract is worth, for `compile` both are
@@ -62,7 +63,7 @@ pub record AreOneCall
     (status : ℕ) (text : List ℕ) (other_status : ℕ) (other : List ℕ) : Type 0 where
   pub one_status : status ≡ other_status
   pub one_line : status ≢ 0 → text ≡ other
-  pub one_answer : status ≡ 0 → AreOneAnswer words shelf text other
+  pub one_answer : status ≡ FINE → AreOneAnswer words shelf text other
 
 -- words and files call for at most one status ..
 abbrev pub AnswerIsOne : Type 0

@@ -3,6 +3,10 @@ use Rattle.std.specs.Prelude.{ℕ, List, ◌++◌, codes}
 use Rattle.std.specs.Fmt.{decimal}
 use Rattle.halo_check.specs.declared.fault.ContractKind.{ContractKind}
 use Rattle.halo_check.specs.declared.fault.ContractKind.TheVariants as wrong
+use Rattle.halo_parse.specs.declared.fault.ContractError.{ContractError}
+use Rattle.halo_parse.specs.declared.fault.ContractError.TheVariants as contract
+use Rattle.halo_table.specs.declared.fault.TablesError.{TablesError}
+use Rattle.halo_table.specs.declared.fault.TablesError.TheVariants as tables
 use Rattle.halo_table.specs.declared.fault.TableKind.{TableKind}
 use Rattle.halo_table.specs.declared.fault.TableKind.TheVariants as kind
 use Rattle.halo_top.specs.declared.refusal.ArgumentKind.{ArgumentKind}
@@ -11,6 +15,9 @@ use Rattle.halo_top.specs.declared.refusal.InputFile.{InputFile}
 use Rattle.halo_top.specs.declared.refusal.InputFile.TheVariants as file
 use Rattle.halo_top.specs.declared.refusal.Refusal.{Refusal}
 use Rattle.halo_top.specs.declared.refusal.Refusal.TheVariants as refusal
+use Rattle.halo_top.specs.declared.refusal.Stop.{Stop}
+use Rattle.halo_top.specs.declared.refusal.Stop.TheVariants as stop
+use Rattle.halo_top.specs.declared.status.TheConstants.{NO_COMMAND, READ_FAILED, TABLES_FAULT, TOO_LONG, WRONG_MEANING, WRONG_SIZE, WRONG_SYNTAX}
 
 -- the word for a file
 abbrev pub file_word : InputFile → List ℕ
@@ -75,22 +82,36 @@ line_of r = words_of r ++ codes "\n"
 
 -- the status of a fault of a contract file
 abbrev pub contract_status : ContractKind → ℕ
-contract_status wrong.Syntax = 6
-contract_status wrong.Magnitude = 8
-contract_status _ = 7
+contract_status wrong.Syntax = WRONG_SYNTAX
+contract_status wrong.Magnitude = WRONG_SIZE
+contract_status _ = WRONG_MEANING
 
 -- the status of a fault of the arguments of `columns`
 abbrev pub argument_status : ArgumentKind → ℕ
-argument_status argument.Syntax = 6
-argument_status argument.Magnitude = 8
-argument_status argument.Zero = 7
-argument_status argument.NoTable = 7
+argument_status argument.Syntax = WRONG_SYNTAX
+argument_status argument.Magnitude = WRONG_SIZE
+argument_status argument.Zero = WRONG_MEANING
+argument_status argument.NoTable = WRONG_MEANING
 
 -- the status of a refusal
 abbrev pub status_of : Refusal → ℕ
-status_of refusal.Usage = 2
-status_of (refusal.Read _) = 3
-status_of (refusal.TooLong _) = 4
-status_of (refusal.Table _) = 5
+status_of refusal.Usage = NO_COMMAND
+status_of (refusal.Read _) = READ_FAILED
+status_of (refusal.TooLong _) = TOO_LONG
+status_of (refusal.Table _) = TABLES_FAULT
 status_of (refusal.Contract fault) = contract_status fault.kind
 status_of (refusal.Argument k) = argument_status k
+
+-- why a command stops where its tables file gives no tables
+abbrev pub stop_of_tables : TablesError → Stop
+stop_of_tables (tables.Fault fault) = stop.Refused (refusal.Table fault)
+stop_of_tables tables.Memory = stop.Memory
+
+-- why it stops where its contract file gives no contract
+abbrev pub stop_of_contract : ContractError → Stop
+stop_of_contract (contract.Fault fault) = stop.Refused (refusal.Contract fault)
+stop_of_contract contract.Memory = stop.Memory
+
+-- why it stops where something is wrong with an argument
+abbrev pub stop_of_argument : ArgumentKind → Stop
+stop_of_argument kind = stop.Refused (refusal.Argument kind)

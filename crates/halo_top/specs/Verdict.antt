@@ -30,6 +30,7 @@ use Rattle.halo_top.specs.declared.refusal.Refusal.{Refusal}
 use Rattle.halo_top.specs.declared.refusal.Refusal.TheVariants as refusal
 use Rattle.halo_top.specs.declared.refusal.Stop.{Stop}
 use Rattle.halo_top.specs.declared.refusal.Stop.TheVariants as stop
+use Rattle.halo_top.specs.declared.status.TheConstants.{FINE}
 
 -- the files as the shelf tells them, and its count of the faults of each before a run and after it
 pub record Shelved : Type 0 where
@@ -165,7 +166,7 @@ Answered words shelf text = (request : Request) × Asks words request × IsAnswe
 -- the status and the text that these words and files call for
 abbrev pub CallsFor : List (List ℕ) → Shelved → ℕ → List ℕ → Type 0
 CallsFor words shelf status text =
-    ((status ≡ 0) × Answered words shelf text)
+    ((status ≡ FINE) × Answered words shelf text)
     ⊎ ((r : Refusal) × Refused words shelf r × (status ≡ status_of r) × (text ≡ line_of r))
 
 -- the file of this name is told, and its count of faults did not rise

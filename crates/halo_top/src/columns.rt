@@ -18,17 +18,11 @@ use std::sync::ledger::{Blank, Ledger};
 pub fn columns(alloc: Global, tables: &Tables, name: &str, fraction: &str) -> Result<Vec<u8>, Stop>
     ensures { AnswersArguments tables.now name.now fraction.now result }
 {
-    let interest = match read_interest(fraction) {
-        Ok(interest) => interest,
-        Err(kind) => return Err(Stop::Refused(Refusal::Argument(kind))),
-    };
+    let interest = read_interest(fraction)?;
     let Some(table) = tables.find(name.as_bytes()) else {
         return Err(Stop::Refused(Refusal::Argument(ArgumentKind::NoTable)));
     };
-    match text_of_table::<Brand>(alloc, tables, table, &interest, Blank::new(1)) {
-        Ok(text) => Ok(text),
-        Err(_) => Err(Stop::Memory),
-    }
+    Ok(text_of_table::<Brand>(alloc, tables, table, &interest, Blank::new(1))?)
 }
 
 // The interest that a fraction writes, the same in every year.

@@ -6,8 +6,8 @@ ghost use Rattle.halo_top.specs.Input.{LoadsContract, LoadsFile, LoadsTables};
 use crate::refusal::{InputFile, Refusal, Stop};
 use halo_contract::Contract;
 use halo_io::{LoadFault, Shelf, load};
-use halo_parse::{ContractError, read_contract};
-use halo_table::{Tables, TablesError};
+use halo_parse::read_contract;
+use halo_table::Tables;
 use std::alloc::Global;
 
 /// The tables of the tables file of this name.
@@ -18,11 +18,7 @@ pub fn load_tables<S: Shelf>(alloc: Global, shelf: &mut S, name: &str) -> Result
         (Rose (S.faults shelf.old name.now) (S.faults shelf.new name.now)) result }
 {
     let bytes = load_file(alloc, shelf, name, InputFile::Tables)?;
-    match Tables::read(alloc, &bytes) {
-        Ok(tables) => Ok(tables),
-        Err(TablesError::Fault(fault)) => Err(Stop::Refused(Refusal::Table(fault))),
-        Err(TablesError::Memory) => Err(Stop::Memory),
-    }
+    Ok(Tables::read(alloc, &bytes)?)
 }
 
 /// The contract of the contract file of this name, with these tables.
@@ -38,11 +34,7 @@ pub fn load_contract<S: Shelf>(
         (Rose (S.faults shelf.old name.now) (S.faults shelf.new name.now)) result }
 {
     let bytes = load_file(alloc, shelf, name, InputFile::Contract)?;
-    match read_contract(alloc, &bytes, tables) {
-        Ok(contract) => Ok(contract),
-        Err(ContractError::Fault(fault)) => Err(Stop::Refused(Refusal::Contract(fault))),
-        Err(ContractError::Memory) => Err(Stop::Memory),
-    }
+    Ok(read_contract(alloc, &bytes, tables)?)
 }
 
 // All the bytes of a file.

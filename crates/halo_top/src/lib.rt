@@ -13,6 +13,7 @@ mod no_words;
 mod program;
 mod refusal;
 mod sample;
+mod status;
 mod value;
 
 pub use no_words::NoWords;

@@ -2,6 +2,8 @@
 ghost use Rattle.std.specs.Prelude.{◌≡◌};
 ghost use Rattle.halo_top.specs.Run.{status_of_none};
 
+use crate::status::{NO_MEMORY, WORD_REFUSED};
+
 /// Why there are no words.
 #[derive(Clone, Copy, Debug, PartialEq, Eq)]
 pub enum NoWords {
@@ -17,8 +19,8 @@ impl NoWords {
         ensures { result ≡ status_of_none self }
     {
         match self {
-            NoWords::Memory => 9,
-            NoWords::Refused => 10,
+            NoWords::Memory => NO_MEMORY,
+            NoWords::Refused => WORD_REFUSED,
         }
     }
 }

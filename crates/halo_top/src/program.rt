@@ -18,21 +18,13 @@ use crate::input::{load_contract, load_tables};
 use crate::no_words::NoWords;
 use crate::refusal::{Refusal, Stop};
 use crate::sample::sample;
+use crate::status::{FINE, NO_MEMORY, WRITE_FAILED};
 use crate::value::value;
 use halo_contract::Contract;
 use halo_io::{Shelf, Sink, put_all};
 use halo_report::Memory;
 use halo_table::Tables;
 use std::alloc::Global;
-
-/// The status where the whole answer was written.
-const FINE: u8 = 0;
-
-/// The status where a write failed.
-const WRITE_FAILED: u8 = 1;
-
-/// The status where there was no memory.
-const NO_MEMORY: u8 = 9;
 
 /// Does what came of asking the machine for its words: where they are words, what [`run`] does
 /// with them; otherwise it reads and writes nothing, and answers the status that says why.
@@ -51,7 +43,7 @@ pub fn run_words<S: Shelf, K: Sink>(
     ensures no_words { IfErr words (λ none. result ≡ status_of_none none) }
     ensures unread { IfErr words (λ none. shelf.new ≡ shelf.old) }
     ensures unwritten { IfErr words (λ none. out.new ≡ out.old) }
-    ensures memory { result ≡ 9 → out.new ≡ out.old }
+    ensures memory { result ≡ NO_MEMORY → out.new ≡ out.old }
 {
     match words {
         Ok(words) => run(alloc, &words, shelf, out),
@@ -93,7 +85,7 @@ pub fn run<S: Shelf, K: Sink>(alloc: Global, words: &[String], shelf: &mut S, ou
         (shelved (S.file shelf.old) (S.faults shelf.old) (S.faults shelf.new))
         (sunk (K.taken out.old) (K.taken out.new) (K.faults out.old) (K.faults out.new))
         result }
-    ensures memory { result ≡ 9 → out.new ≡ out.old }
+    ensures memory { result ≡ NO_MEMORY → out.new ≡ out.old }
 {
     let Some(command) = Command::read(words) else {
         return refuse(Refusal::Usage, out);
@@ -131,10 +123,7 @@ fn answer_of_contract<S: Shelf>(
 {
     let tables = load_tables(alloc, shelf, command.tables)?;
     let contract = load_contract(alloc, shelf, command.contract, &tables)?;
-    match text_of(alloc, command.task, &tables, &contract) {
-        Ok(text) => Ok(text),
-        Err(_) => Err(Stop::Memory),
-    }
+    Ok(text_of(alloc, command.task, &tables, &contract)?)
 }
 
 // The text of the columns of a table.
@@ -172,9 +161,9 @@ fn text_of(
 
 // Writes the line of a refusal, and answers its status, or that a write failed.
 fn refuse<K: Sink>(refusal: Refusal, out: &mut K) -> u8
-    ensures written { result ≢ 1 → (result ≡ status_of refusal)
+    ensures written { result ≢ WRITE_FAILED → (result ≡ status_of refusal)
         × AppendsTold (K.taken out.old) (K.taken out.new) (line_of refusal) }
-    ensures failed { result ≡ 1 → Rose (K.faults out.old) (K.faults out.new)
+    ensures failed { result ≡ WRITE_FAILED → Rose (K.faults out.old) (K.faults out.new)
         × TookPrefix (K.taken out.old) (K.taken out.new) (line_of refusal) }
 {
     write(refusal.line().as_bytes(), refusal.status(), out)
@@ -182,10 +171,10 @@ fn refuse<K: Sink>(refusal: Refusal, out: &mut K) -> u8
 
 // Writes a text, and answers its status, or that a write failed.
 fn write<K: Sink>(text: &[u8], status: u8, out: &mut K) -> u8
-    requires { status ≢ 1 }
-    ensures written { result ≢ 1 → (result ≡ status)
+    requires { status ≢ WRITE_FAILED }
+    ensures written { result ≢ WRITE_FAILED → (result ≡ status)
         × AppendsTold (K.taken out.old) (K.taken out.new) text.now }
-    ensures failed { result ≡ 1 → Rose (K.faults out.old) (K.faults out.new)
+    ensures failed { result ≡ WRITE_FAILED → Rose (K.faults out.old) (K.faults out.new)
         × TookPrefix (K.taken out.old) (K.taken out.new) text.now }
 {
     match put_all(out, text) {

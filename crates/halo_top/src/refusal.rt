@@ -1,11 +1,19 @@
 // Why a command writes no answer, with the status of each.
 ghost use Rattle.std.specs.Prelude.{◌≡◌, ◌≤◌};
 ghost use Rattle.halo_top.specs.Input.{limit_of};
-ghost use Rattle.halo_top.specs.Refusal.{status_of};
+ghost use Rattle.halo_top.specs.Refusal.{status_of, stop_of_argument, stop_of_contract, stop_of_tables};
+ghost use Rattle.halo_top.specs.declared.refusal.Stop.TheVariants.{Memory};
 
+use crate::status::{
+    NO_COMMAND, READ_FAILED, TABLES_FAULT, TOO_LONG, WRONG_MEANING, WRONG_SIZE, WRONG_SYNTAX,
+};
 use halo_check::ContractKind;
-use halo_parse::ContractFault;
-use halo_table::TableFault;
+use halo_parse::{ContractError, ContractFault};
+use halo_table::{LONGEST_FILE, TableFault, TablesError};
+use std::alloc::AllocError;
+
+/// The greatest number of bytes of a contract file.
+pub const LONGEST_CONTRACT: usize = 65_536;
 
 /// A file that a command reads.
 #[derive(Clone, Copy, Debug, PartialEq, Eq)]
@@ -18,11 +26,11 @@ impl InputFile {
     /// The greatest number of bytes of the file.
     pub fn limit(self) -> usize
         ensures limit { result ≡ limit_of self }
-        ensures small { result ≤ 16777216 }
+        ensures small { result ≤ LONGEST_FILE }
     {
         match self {
-            InputFile::Tables => 16_777_216,
-            InputFile::Contract => 65_536,
+            InputFile::Tables => LONGEST_FILE,
+            InputFile::Contract => LONGEST_CONTRACT,
         }
     }
 }
@@ -67,24 +75,62 @@ pub enum Stop {
     Memory,
 }
 
+impl From<AllocError> for Stop {
+    ghost from_gives = { λ _ why. why ≡ Memory };
+
+    fn from(_error: AllocError) -> Stop {
+        Stop::Memory
+    }
+}
+
+impl From<TablesError> for Stop {
+    ghost from_gives = { λ error why. why ≡ stop_of_tables error };
+
+    fn from(error: TablesError) -> Stop {
+        match error {
+            TablesError::Fault(fault) => Stop::Refused(Refusal::Table(fault)),
+            TablesError::Memory => Stop::Memory,
+        }
+    }
+}
+
+impl From<ContractError> for Stop {
+    ghost from_gives = { λ error why. why ≡ stop_of_contract error };
+
+    fn from(error: ContractError) -> Stop {
+        match error {
+            ContractError::Fault(fault) => Stop::Refused(Refusal::Contract(fault)),
+            ContractError::Memory => Stop::Memory,
+        }
+    }
+}
+
+impl From<ArgumentKind> for Stop {
+    ghost from_gives = { λ kind why. why ≡ stop_of_argument kind };
+
+    fn from(kind: ArgumentKind) -> Stop {
+        Stop::Refused(Refusal::Argument(kind))
+    }
+}
+
 impl Refusal {
     /// The status with which the program ends.
     pub fn status(&self) -> u8
         ensures { result ≡ status_of self.now }
     {
         match self {
-            Refusal::Usage => 2,
-            Refusal::Read(_) => 3,
-            Refusal::TooLong(_) => 4,
-            Refusal::Table(_) => 5,
+            Refusal::Usage => NO_COMMAND,
+            Refusal::Read(_) => READ_FAILED,
+            Refusal::TooLong(_) => TOO_LONG,
+            Refusal::Table(_) => TABLES_FAULT,
             Refusal::Contract(fault) => match fault.kind {
-                ContractKind::Syntax => 6,
-                ContractKind::Magnitude => 8,
-                _ => 7,
+                ContractKind::Syntax => WRONG_SYNTAX,
+                ContractKind::Magnitude => WRONG_SIZE,
+                _ => WRONG_MEANING,
             },
-            Refusal::Argument(ArgumentKind::Syntax) => 6,
-            Refusal::Argument(ArgumentKind::Magnitude) => 8,
-            Refusal::Argument(ArgumentKind::Zero | ArgumentKind::NoTable) => 7,
+            Refusal::Argument(ArgumentKind::Syntax) => WRONG_SYNTAX,
+            Refusal::Argument(ArgumentKind::Magnitude) => WRONG_SIZE,
+            Refusal::Argument(ArgumentKind::Zero | ArgumentKind::NoTable) => WRONG_MEANING,
         }
     }
 }

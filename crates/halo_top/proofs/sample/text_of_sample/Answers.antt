@@ -1,39 +1,34 @@
 use Rattle.std.proofs.Common.{◌≡◌, length, ap, sym, ◌∙◌}
-use Rattle.std.proofs.lemmas.Result.{IfOk-weaker}
 use Rattle.halo_contract.specs.PlainContract.{contract_of}
 use Rattle.halo_lines.specs.Report.{report_of}
 use Rattle.halo_parse.proofs.ValidContracts.{contracts_are_valid}
-use Rattle.halo_report.specs.SampleText.{sample_text}
 use Rattle.halo_sample.specs.Sample.{sample_contract, sample_tables}
-use Rattle.halo_top.specs.Sample.{TellsSample}
 use Rattle.halo_top.proofs.Samples.{sample-holds}
 use Rattle.halo_top.proofs.sample.text_of_sample.Goals as goal
 
 pub value_report-requires : goal.value_report-requires
 value_report-requires c =
     contracts_are_valid c.in_ok-tables.tables c.deref-2.result.now (contract_of c.in_ok-contract.contract)
-    c.in_ok-contract.ensures
+    c.in_ok-contract.ensures.contract
 
-pub returns : goal.returns
-returns c =
+pub returns-clause-told : goal.returns-clause-told
+returns-clause-told c =
     let n = c.args.number in
     let tables = c.in_ok-tables.tables in
     let contract = contract_of c.in_ok-contract.contract in
     let report = report_of c.in_ok-report.report in
-    let holds = sample-holds n tables contract c.deref-2.result.now c.in_ok-tables.ensures
-    (c.deref-2.ensures.value ∙ c.in_ok-files.ensures.contract) c.in_ok-contract.ensures in
+    let holds = sample-holds n tables contract c.deref-2.result.now c.in_ok-tables.ensures.tables
+    (c.deref-2.ensures.value ∙ c.in_ok-files.ensures.contract) c.in_ok-contract.ensures.contract in
     let tables_len : c.len.result ≡ length (sample_tables n)
     = c.len.ensures ∙ sym c.deref.ensures.len ∙ ap length (c.deref.ensures.value ∙ c.in_ok-files.ensures.tables) in
     let contract_len : c.len-2.result ≡ length (sample_contract n)
     = c.len-2.ensures ∙ sym c.deref-2.ensures.len
     ∙ ap length (c.deref-2.ensures.value ∙ c.in_ok-files.ensures.contract) in
-    IfOk-weaker c.sample_text.result (λ text. text.items ≡ sample_text n c.len.result c.len-2.result report)
-    (λ text. TellsSample n text.items)
-    (λ text is. record {
+    record {
       tables = tables;
       contract = contract;
       report = report;
       holds = holds;
       encloses = c.in_ok-report.ensures.encloses;
-      text_is = rw (tables_len, contract_len) at is;
-    }) c.sample_text.ensures
+      text_is = rw (tables_len, contract_len) at c.in_ok-sample_text.ensures;
+    }
