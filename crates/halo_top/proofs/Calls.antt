@@ -9,6 +9,7 @@ use Rattle.halo_top.specs.declared.command.Command.{Command}
 use Rattle.halo_top.specs.declared.refusal.Refusal.{Refusal}
 use Rattle.halo_top.specs.declared.refusal.Refusal.TheVariants as refusal
 use Rattle.halo_top.specs.declared.refusal.Stop.TheVariants as stop
+use Rattle.halo_top.specs.declared.status.TheConstants.{FINE}
 
 -- a command is no usage
 never-usage : {R : Type 0} (request : Request) (shelf : Shelved) → Refuses request shelf refusal.Usage → R
@@ -31,7 +32,8 @@ pub asks_for_memory : (words : List (List ℕ)) (asked : Command) → ReadsWords
 asks_for_memory words asked asks takes = (request_of asked, asks, takes)
 
 module _ (words : List (List ℕ)) (shelf : Shelved) (asked : Command) (asks : ReadsWords words (Some asked)) where
-  pub calls_for_text : (text : Vec ℕ) → Answers (request_of asked) shelf (Ok text) → CallsFor words shelf 0 text.items
+  pub calls_for_text : (text : Vec ℕ)
+      → Answers (request_of asked) shelf (Ok text) → CallsFor words shelf FINE text.items
   calls_for_text text answer = inl (refl, (request_of asked, asks, answer))
 
   pub calls_for_line : (r : Refusal) → Answers (request_of asked) shelf (Err (stop.Refused r))

@@ -1,7 +1,7 @@
 -- Why a command stops where a file gives no tables or no contract.
 use Rattle.std.proofs.Common.{◌≡◌, ◌∙◌, Err, List, Ok, Option, Result, refl, ℕ}
 use Rattle.std.specs.Option.{IfSome}
-use Rattle.std.specs.Result.{IfErr, IsErrAnd}
+use Rattle.std.specs.Result.{IsErrAnd, IsOkUnless}
 use Rattle.halo_table.specs.DecrementTable.{TableFile}
 use Rattle.halo_table.specs.declared.fault.TableFault.{TableFault}
 use Rattle.halo_table.specs.declared.fault.TablesError.{TablesError}
@@ -17,7 +17,7 @@ use Rattle.halo_top.specs.declared.refusal.Stop.TheVariants as stop
 
 -- an error that is known to be one thing is another that this is
 pub stops-with : {X : Type 0} (r : Result X Stop) (s t : Stop)
-    → IsErrAnd r (λ why. why ≡ s) → s ≡ t → IfErr r (λ why. why ≡ t)
+    → IsErrAnd r (λ why. why ≡ s) → s ≡ t → IsOkUnless r t
 stops-with (Ok x) s t is same = absurd is
 stops-with (Err why) s t is same = is ∙ same
 

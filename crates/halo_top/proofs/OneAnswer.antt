@@ -31,6 +31,7 @@ use Rattle.halo_top.specs.declared.command.Task.TheVariants as task
 use Rattle.halo_top.specs.declared.refusal.InputFile.TheVariants as file
 use Rattle.halo_top.specs.declared.refusal.Refusal.{Refusal}
 use Rattle.halo_top.specs.declared.refusal.Refusal.TheVariants as refusal
+use Rattle.halo_top.specs.declared.status.TheConstants.{FINE, NO_MEMORY, TABLES_FAULT}
 use Rattle.halo_top.proofs.Arguments.{one-argument-fault, one-reading, one-table, told-or-fault}
 
 -- what the bytes of a contract file call for: a refusal, or an answer (None), where they write a contract
@@ -403,19 +404,19 @@ module _ (words : List (List ℕ)) (shelf : Shelved) (reads : ReadsAll words she
       one-refusal-of-command words shelf reads q asked (refusal.Argument fault) other h also
 
 -- a fault of a contract file has one of three statuses
-fault-status : (k : ContractKind) → (5 < contract_status k) × (contract_status k < 9)
+fault-status : (k : ContractKind) → (TABLES_FAULT < contract_status k) × (contract_status k < NO_MEMORY)
 fault-status wrong.Syntax = (omega arith, omega arith)
 fault-status wrong.Magnitude = (omega arith, omega arith)
 fault-status _ = (omega arith, omega arith)
 
-argument-status : (k : ArgumentKind) → (5 < argument_status k) × (argument_status k < 9)
+argument-status : (k : ArgumentKind) → (TABLES_FAULT < argument_status k) × (argument_status k < NO_MEMORY)
 argument-status argument.Syntax = (omega arith, omega arith)
 argument-status argument.Magnitude = (omega arith, omega arith)
 argument-status argument.Zero = (omega arith, omega arith)
 argument-status argument.NoTable = (omega arith, omega arith)
 
--- the status of a refusal is neither 0 nor 9
-pub refusal-status : (r : Refusal) → (0 < status_of r) × (status_of r < 9)
+-- the status of a refusal lies between that of a whole answer and that of no memory
+pub refusal-status : (r : Refusal) → (FINE < status_of r) × (status_of r < NO_MEMORY)
 refusal-status refusal.Usage = (omega arith, omega arith)
 refusal-status (refusal.Read f) = (omega arith, omega arith)
 refusal-status (refusal.TooLong f) = (omega arith, omega arith)

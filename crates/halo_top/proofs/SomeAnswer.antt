@@ -9,6 +9,7 @@ use Rattle.halo_interest.specs.declared.rate.Rate.{Rate}
 use Rattle.halo_table.specs.DecrementTable.{TableFile}
 use Rattle.halo_table.specs.Grouping.{tables_of}
 use Rattle.halo_table.specs.Sound.{IsSound}
+use Rattle.halo_table.specs.declared.held.TheConstants.{LONGEST_FILE}
 use Rattle.halo_table.proofs.Deciding.{dec_bytes, dec_number}
 use Rattle.halo_table.proofs.FirstFault.{fault_or_none}
 use Rattle.halo_table.proofs.Soundness.{sound_of_fine}
@@ -48,6 +49,8 @@ use Rattle.halo_top.specs.declared.command.Task.TheVariants as task
 use Rattle.halo_top.specs.declared.refusal.InputFile.TheVariants as file
 use Rattle.halo_top.specs.declared.refusal.Refusal.{Refusal}
 use Rattle.halo_top.specs.declared.refusal.Refusal.TheVariants as refusal
+use Rattle.halo_top.specs.declared.refusal.TheConstants.{LONGEST_CONTRACT}
+use Rattle.halo_top.specs.declared.status.TheConstants.{FINE, USAGE}
 use Rattle.halo_top.proofs.Arguments.{a-reading, a-table-or-none}
 use Rattle.halo_top.proofs.Calls.{refused}
 
@@ -92,7 +95,7 @@ module _ (t : Task) (shelf : Shelved) (tables contract : List ℕ)
       })
 
   of-contract-file : Calls (of_contract t tables contract) shelf
-  of-contract-file = elim (dec_le (length read.all) 65536) [
+  of-contract-file = elim (dec_le (length read.all) LONGEST_CONTRACT) [
     | no long ↦ refuses (refusal.TooLong file.Contract)
         (rw tables_read.told (in_order, rw read.told (omega (arith, long))))
     | yes short ↦ elim (contract_or_fault file_tables read.all) [
@@ -104,7 +107,7 @@ module _ (t : Task) (shelf : Shelved) (tables contract : List ℕ)
 
 files-call : (t : Task) (shelf : Shelved) (tables contract : List ℕ) → AreBothRead shelf tables contract
     → Calls (of_contract t tables contract) shelf
-files-call t shelf tables contract read = elim (dec_le (length read.tables_read.all) 16777216) [
+files-call t shelf tables contract read = elim (dec_le (length read.tables_read.all) LONGEST_FILE) [
   | no long ↦ refuses (refusal.TooLong file.Tables) (rw read.tables_read.told (omega (arith, long)))
   | yes short ↦ elim (fault_or_none (records_of read.tables_read.all)) [
     | inl fine ↦
@@ -230,7 +233,7 @@ module _ (shelf : Shelved) (tables name fraction : List ℕ) (read : IsRead shel
 
 arguments-call : (shelf : Shelved) (tables name fraction : List ℕ) → IsRead shelf tables
     → Calls (of_columns tables name fraction) shelf
-arguments-call shelf tables name fraction read = elim (dec_le (length read.all) 16777216) [
+arguments-call shelf tables name fraction read = elim (dec_le (length read.all) LONGEST_FILE) [
   | no long ↦ refuses (refusal.TooLong file.Tables) (rw read.told (omega (arith, long)))
   | yes short ↦ elim (fault_or_none (records_of read.all)) [
     | inl fine ↦
@@ -287,11 +290,11 @@ request-calls (of_sample word) shelf read = number-calls shelf word
 
 module _ (words : List (List ℕ)) (shelf : Shelved) (request : Request) (asks : Asks words request) where
   called : Calls request shelf → (status : ℕ) × (text : List ℕ) × CallsFor words shelf status text
-  called (answers text answer) = (0, text, inl (refl, (request, asks, answer)))
+  called (answers text answer) = (FINE, text, inl (refl, (request, asks, answer)))
   called (refuses r h) = (status_of r, line_of r, inr (r, refused words shelf request asks r h, refl, refl))
 
 pub answer-exists : AnswerExists
 answer-exists words shelf reads = elim (dec_command words) [
   | yes command ↦ called words shelf command.0 command.1 (request-calls command.0 shelf (reads command.0 command.1))
-  | no none ↦ (2, line_of refusal.Usage, inr (refusal.Usage, none, refl, refl))
+  | no none ↦ (USAGE, line_of refusal.Usage, inr (refusal.Usage, none, refl, refl))
 ]

@@ -62,7 +62,7 @@ pub record AreOneCall
     (words : List (List ℕ)) (shelf : Shelved)
     (status : ℕ) (text : List ℕ) (other_status : ℕ) (other : List ℕ) : Type 0 where
   pub one_status : status ≡ other_status
-  pub one_line : status ≢ 0 → text ≡ other
+  pub one_line : status ≢ FINE → text ≡ other
   pub one_answer : status ≡ FINE → AreOneAnswer words shelf text other
 
 -- words and files call for at most one status ..

@@ -17,7 +17,8 @@ use Rattle.halo_top.specs.declared.refusal.Refusal.{Refusal}
 use Rattle.halo_top.specs.declared.refusal.Refusal.TheVariants as refusal
 use Rattle.halo_top.specs.declared.refusal.Stop.{Stop}
 use Rattle.halo_top.specs.declared.refusal.Stop.TheVariants as stop
-use Rattle.halo_top.specs.declared.status.TheConstants.{NO_COMMAND, READ_FAILED, TABLES_FAULT, TOO_LONG, WRONG_MEANING, WRONG_SIZE, WRONG_SYNTAX}
+use Rattle.halo_top.specs.declared.status.TheConstants.{MAGNITUDE_FAULT, OTHER_FAULT, READ_FAILED}
+use Rattle.halo_top.specs.declared.status.TheConstants.{SYNTAX_FAULT, TABLES_FAULT, TOO_LONG, USAGE}
 
 -- the word for a file
 abbrev pub file_word : InputFile → List ℕ
@@ -82,20 +83,20 @@ line_of r = words_of r ++ codes "\n"
 
 -- the status of a fault of a contract file
 abbrev pub contract_status : ContractKind → ℕ
-contract_status wrong.Syntax = WRONG_SYNTAX
-contract_status wrong.Magnitude = WRONG_SIZE
-contract_status _ = WRONG_MEANING
+contract_status wrong.Syntax = SYNTAX_FAULT
+contract_status wrong.Magnitude = MAGNITUDE_FAULT
+contract_status _ = OTHER_FAULT
 
 -- the status of a fault of the arguments of `columns`
 abbrev pub argument_status : ArgumentKind → ℕ
-argument_status argument.Syntax = WRONG_SYNTAX
-argument_status argument.Magnitude = WRONG_SIZE
-argument_status argument.Zero = WRONG_MEANING
-argument_status argument.NoTable = WRONG_MEANING
+argument_status argument.Syntax = SYNTAX_FAULT
+argument_status argument.Magnitude = MAGNITUDE_FAULT
+argument_status argument.Zero = OTHER_FAULT
+argument_status argument.NoTable = OTHER_FAULT
 
 -- the status of a refusal
 abbrev pub status_of : Refusal → ℕ
-status_of refusal.Usage = NO_COMMAND
+status_of refusal.Usage = USAGE
 status_of (refusal.Read _) = READ_FAILED
 status_of (refusal.TooLong _) = TOO_LONG
 status_of (refusal.Table _) = TABLES_FAULT

@@ -6,7 +6,7 @@ use Rattle.halo_top.specs.Command.{Asks, IsCommand, Request}
 use Rattle.halo_top.specs.Verdict.{CallsFor, ReadsAll, Shelved, TakesMemory}
 use Rattle.halo_top.specs.declared.no_words.NoWords.{NoWords}
 use Rattle.halo_top.specs.declared.no_words.NoWords.TheVariants as none
-use Rattle.halo_top.specs.declared.status.TheConstants.{NO_COMMAND, NO_MEMORY, WORD_REFUSED, WRITE_FAILED}
+use Rattle.halo_top.specs.declared.status.TheConstants.{NO_MEMORY, USAGE, WORDS_REFUSED, WRITE_FAILED}
 
 -- what a sink tells that it took, and its count of faults, before a run and after it
 pub record Sunk : Type 0 where
@@ -49,21 +49,22 @@ AskForMemory words = (request : Request) × Asks words request × TakesMemory re
 -- with these words, these files and this sink a run ends with this status
 pub record IsRun (words : List (List ℕ)) (shelf : Shelved) (sink : Sunk) (status : ℕ)
     : Type 0 where
-  -- a status of neither a failed write nor want of memory is called for, and its text was written
+  -- a status that tells neither a failed write nor want of memory is called for, and its text was
+  -- written
   pub answer : status ≢ WRITE_FAILED → status ≢ NO_MEMORY → IsSaid words shelf sink status
-  -- that of a failed write comes only where a write failed
+  -- a failed write is told only where one failed
   pub write_fault : status ≡ WRITE_FAILED → IsCutOff words shelf sink
-  -- that of want of memory comes only where the words are a command, in which nothing is wrong with
-  -- a sample's number
+  -- want of memory is told only where the words are a command, in which nothing is wrong with a
+  -- sample's number
   pub memory : status ≡ NO_MEMORY → AskForMemory words
   -- where the files are read as far as they are needed and no write failed, the status is the one
-  -- that is called for, or that of want of memory
+  -- that is called for, or tells want of memory
   pub complete : (called : ℕ) (text : List ℕ) → ReadsAll words shelf → (HasFailed sink → ⊥)
       → CallsFor words shelf called text → (status ≡ called) ⊎ (status ≡ NO_MEMORY)
-  -- words that are no command end with the status of that, or with that of a failed write
-  pub usage : (IsCommand words → ⊥) → (status ≡ NO_COMMAND) ⊎ (status ≡ WRITE_FAILED)
+  -- words that are no command end with the usage, or with a failed write
+  pub usage : (IsCommand words → ⊥) → (status ≡ USAGE) ⊎ (status ≡ WRITE_FAILED)
 
 -- the status where the machine gives no words
 abbrev pub status_of_none : NoWords → ℕ
 status_of_none none.Memory = NO_MEMORY
-status_of_none none.Refused = WORD_REFUSED
+status_of_none none.Refused = WORDS_REFUSED

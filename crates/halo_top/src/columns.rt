@@ -2,7 +2,7 @@
 ghost use Rattle.std.specs.Prelude.{◌≡◌, ◌<◌, IfOk, length};
 ghost use Rattle.halo_top.specs.Arguments.{AnswersArguments, ReadsInterest, TellsColumns};
 
-use crate::refusal::{ArgumentKind, Refusal, Stop};
+use crate::refusal::{ArgumentKind, Stop};
 use halo_check::ContractKind;
 use halo_columns::columns as enclosed_columns;
 use halo_interest::Interest;
@@ -19,10 +19,9 @@ pub fn columns(alloc: Global, tables: &Tables, name: &str, fraction: &str) -> Re
     ensures { AnswersArguments tables.now name.now fraction.now result }
 {
     let interest = read_interest(fraction)?;
-    let Some(table) = tables.find(name.as_bytes()) else {
-        return Err(Stop::Refused(Refusal::Argument(ArgumentKind::NoTable)));
-    };
-    Ok(text_of_table::<Brand>(alloc, tables, table, &interest, Blank::new(1))?)
+    let table = tables.find(name.as_bytes()).ok_or(ArgumentKind::NoTable)?;
+    let blank = Blank::new(1);
+    Ok(text_of_table::<Brand>(alloc, tables, table, &interest, blank)?)
 }
 
 // The interest that a fraction writes, the same in every year.

@@ -13,7 +13,7 @@ mod no_words;
 mod program;
 mod refusal;
 mod sample;
-mod status;
+pub mod status;
 mod value;
 
 pub use no_words::NoWords;

@@ -2,7 +2,7 @@
 ghost use Rattle.std.specs.Prelude.{◌≡◌};
 ghost use Rattle.halo_top.specs.Run.{status_of_none};
 
-use crate::status::{NO_MEMORY, WORD_REFUSED};
+use crate::status::{NO_MEMORY, WORDS_REFUSED};
 
 /// Why there are no words.
 #[derive(Clone, Copy, Debug, PartialEq, Eq)]
@@ -20,7 +20,7 @@ impl NoWords {
     {
         match self {
             NoWords::Memory => NO_MEMORY,
-            NoWords::Refused => WORD_REFUSED,
+            NoWords::Refused => WORDS_REFUSED,
         }
     }
 }

@@ -5,14 +5,14 @@ ghost use Rattle.halo_top.specs.Refusal.{status_of, stop_of_argument, stop_of_co
 ghost use Rattle.halo_top.specs.declared.refusal.Stop.TheVariants.{Memory};
 
 use crate::status::{
-    NO_COMMAND, READ_FAILED, TABLES_FAULT, TOO_LONG, WRONG_MEANING, WRONG_SIZE, WRONG_SYNTAX,
+    MAGNITUDE_FAULT, OTHER_FAULT, READ_FAILED, SYNTAX_FAULT, TABLES_FAULT, TOO_LONG, USAGE,
 };
 use halo_check::ContractKind;
 use halo_parse::{ContractError, ContractFault};
 use halo_table::{LONGEST_FILE, TableFault, TablesError};
 use std::alloc::AllocError;
 
-/// The greatest number of bytes of a contract file.
+/// The greatest length of a contract file, in bytes.
 pub const LONGEST_CONTRACT: usize = 65_536;
 
 /// A file that a command reads.
@@ -119,18 +119,18 @@ impl Refusal {
         ensures { result ≡ status_of self.now }
     {
         match self {
-            Refusal::Usage => NO_COMMAND,
+            Refusal::Usage => USAGE,
             Refusal::Read(_) => READ_FAILED,
             Refusal::TooLong(_) => TOO_LONG,
             Refusal::Table(_) => TABLES_FAULT,
             Refusal::Contract(fault) => match fault.kind {
-                ContractKind::Syntax => WRONG_SYNTAX,
-                ContractKind::Magnitude => WRONG_SIZE,
-                _ => WRONG_MEANING,
+                ContractKind::Syntax => SYNTAX_FAULT,
+                ContractKind::Magnitude => MAGNITUDE_FAULT,
+                _ => OTHER_FAULT,
             },
-            Refusal::Argument(ArgumentKind::Syntax) => WRONG_SYNTAX,
-            Refusal::Argument(ArgumentKind::Magnitude) => WRONG_SIZE,
-            Refusal::Argument(ArgumentKind::Zero | ArgumentKind::NoTable) => WRONG_MEANING,
+            Refusal::Argument(ArgumentKind::Syntax) => SYNTAX_FAULT,
+            Refusal::Argument(ArgumentKind::Magnitude) => MAGNITUDE_FAULT,
+            Refusal::Argument(ArgumentKind::Zero | ArgumentKind::NoTable) => OTHER_FAULT,
         }
     }
 }

@@ -1,11 +1,10 @@
 // The command `sample`.
-ghost use Rattle.std.specs.Prelude.{◌≡◌, ◌≤◌, IfErr, IfOk, length};
+ghost use Rattle.std.specs.Prelude.{◌≡◌, ◌≤◌, IfOk, IsOkUnless, length};
 ghost use Rattle.halo_contract.specs.PlainContract.{contract_of};
 ghost use Rattle.halo_parse.specs.Faults.{WritesContract};
 ghost use Rattle.halo_sample.specs.Sample.{sample_contract, sample_tables};
 ghost use Rattle.halo_sampled.specs.DrawnTables.{drawn_tables};
 ghost use Rattle.halo_top.specs.Sample.{AnswersSample, ReadsSampleNumber, TellsSample};
-ghost use Rattle.halo_top.specs.declared.refusal.Stop.TheVariants.{Memory};
 
 use crate::refusal::{ArgumentKind, LONGEST_CONTRACT, Stop};
 use halo_contract::Contract;
@@ -43,7 +42,7 @@ fn read_sample_number(word: &str) -> Result<u64, ArgumentKind>
 // The summary of the sample of a number: its files are made, read and valued like any.
 fn text_of_sample(alloc: Global, number: u64) -> Result<Vec<u8>, Stop>
     ensures told { IfOk result (λ text. TellsSample number text.items) }
-    ensures memory { IfErr result (λ why. why ≡ Memory) }
+    ensures memory { IsOkUnless result Stop.Memory }
 {
     files_are_short();
     let files = sample_files(alloc, number)?;
@@ -59,12 +58,12 @@ fn text_of_sample(alloc: Global, number: u64) -> Result<Vec<u8>, Stop>
     )?)
 }
 
-// The tables of the tables file of a sample. It has no fault, so none can be answered.
+// The tables of the tables file of a sample. It has no fault, so only memory can be wanting.
 fn tables_of_sample(alloc: Global, number: u64, bytes: &[u8]) -> Result<Tables, Stop>
     requires file { bytes.now ≡ sample_tables number }
     requires short { length bytes.now ≤ LONGEST_FILE }
-    ensures tables { IfOk result (λ tables. tables ≡ drawn_tables number) }
-    ensures memory { IfErr result (λ why. why ≡ Memory) }
+    ensures told { IfOk result (λ tables. tables ≡ drawn_tables number) }
+    ensures memory { IsOkUnless result Stop.Memory }
 {
     tables_have_no_fault();
     Ok(Tables::read(alloc, bytes)?)
@@ -80,9 +79,9 @@ fn contract_of_sample(
     requires tables { tables.now ≡ drawn_tables number }
     requires file { bytes.now ≡ sample_contract number }
     requires short { length bytes.now ≤ LONGEST_CONTRACT }
-    ensures contract { IfOk result (λ contract.
+    ensures told { IfOk result (λ contract.
         WritesContract tables.now bytes.now (contract_of contract)) }
-    ensures memory { IfErr result (λ why. why ≡ Memory) }
+    ensures memory { IsOkUnless result Stop.Memory }
 {
     contract_has_no_fault();
     Ok(read_contract(alloc, bytes, tables)?)

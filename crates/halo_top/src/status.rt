@@ -1,34 +1,34 @@
 // The statuses with which the program ends.
 
-/// The whole text was written.
+/// The whole answer was written.
 pub const FINE: u8 = 0;
 
 /// A write failed.
 pub const WRITE_FAILED: u8 = 1;
 
 /// The words are no command.
-pub const NO_COMMAND: u8 = 2;
+pub const USAGE: u8 = 2;
 
-/// A read failed.
+/// A read of a file failed.
 pub const READ_FAILED: u8 = 3;
 
-/// A file is longer than its limit.
+/// A file has more bytes than its limit.
 pub const TOO_LONG: u8 = 4;
 
 /// The tables file has a fault.
 pub const TABLES_FAULT: u8 = 5;
 
-/// A line of the contract file, or an argument, is not written as the formats have it.
-pub const WRONG_SYNTAX: u8 = 6;
+/// A line of the contract file, or an argument, is not in the notation.
+pub const SYNTAX_FAULT: u8 = 6;
 
-/// Something else is wrong with the contract file or with an argument.
-pub const WRONG_MEANING: u8 = 7;
+/// A line of the contract file, or an argument, has another fault.
+pub const OTHER_FAULT: u8 = 7;
 
-/// A line of the contract file, or an argument, is too large.
-pub const WRONG_SIZE: u8 = 8;
+/// A number of the contract file, or of an argument, is above its limit.
+pub const MAGNITUDE_FAULT: u8 = 8;
 
-/// There was no memory.
+/// There was no memory; nothing was written.
 pub const NO_MEMORY: u8 = 9;
 
-/// The system refused a word.
-pub const WORD_REFUSED: u8 = 10;
+/// The system refused a word, so there is no command.
+pub const WORDS_REFUSED: u8 = 10;

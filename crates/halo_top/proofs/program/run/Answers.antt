@@ -1,6 +1,7 @@
 use Rattle.std.proofs.Common.{inr, refl}
 use Rattle.halo_top.specs.Refusal.{line_of, status_of}
 use Rattle.halo_top.specs.declared.refusal.Refusal.TheVariants as refusal
+use Rattle.halo_top.specs.declared.status.TheConstants.{FINE, USAGE}
 use Rattle.halo_top.proofs.Calls.{asks_for_memory, calls_for_line, calls_for_text}
 use Rattle.halo_top.proofs.Runs.{run_without_memory, run_writes}
 use Rattle.halo_top.proofs.program.run.Goals as goal
@@ -8,7 +9,7 @@ use Rattle.halo_top.proofs.program.run.Goals as goal
 pub returns-in-Ok-clause-run : goal.returns-in-Ok-clause-run
 returns-in-Ok-clause-run g c =
     let written = rw c.deref.ensures.value at c.write.ensures in
-    run_writes _ _ _ 0 c.in-Ok.text.items c.write.result
+    run_writes _ _ _ FINE c.in-Ok.text.items c.write.result
     (calls_for_text _ _ c.in-Some.command c.in-Some.ensures c.in-Ok.text c.in-Ok.ensures.answer)
     (record { written = written.written; failed = written.failed })
 
@@ -29,5 +30,6 @@ returns-in-Err-Memory-clause-run g c =
 pub returns-in_default-clause-run : goal.returns-in_default-clause-run
 returns-in_default-clause-run g c =
     let written = c.refuse.ensures in
-    run_writes _ _ _ 2 (line_of refusal.Usage) c.refuse.result (inr (refusal.Usage, c.in_default.ensures, refl, refl))
+    run_writes _ _ _ USAGE (line_of refusal.Usage) c.refuse.result
+    (inr (refusal.Usage, c.in_default.ensures, refl, refl))
     (record { written = written.written; failed = written.failed })

@@ -9,6 +9,6 @@ returns-in_err-read-clause-memory c =
     (λ fault is. fine_or_fault _ fault.row fault.kind (c.tables_have_no_fault.ensures c.args.number).0
     (rw (is, c.requires.file) at c.in_err-read.ensures)))
 
-pub returns-clause-tables : goal.returns-clause-tables
-returns-clause-tables c =
+pub returns-clause-told : goal.returns-clause-told
+returns-clause-told c =
     (rw c.requires.file at c.in_ok-read.ensures.1) ∙ (c.tables_have_no_fault.ensures c.args.number).1

@@ -9,7 +9,7 @@ use Rattle.halo_top.proofs.sample.text_of_sample.Goals as goal
 pub value_report-requires : goal.value_report-requires
 value_report-requires c =
     contracts_are_valid c.in_ok-tables.tables c.deref-2.result.now (contract_of c.in_ok-contract.contract)
-    c.in_ok-contract.ensures.contract
+    c.in_ok-contract.ensures.told
 
 pub returns-clause-told : goal.returns-clause-told
 returns-clause-told c =
@@ -17,8 +17,8 @@ returns-clause-told c =
     let tables = c.in_ok-tables.tables in
     let contract = contract_of c.in_ok-contract.contract in
     let report = report_of c.in_ok-report.report in
-    let holds = sample-holds n tables contract c.deref-2.result.now c.in_ok-tables.ensures.tables
-    (c.deref-2.ensures.value ∙ c.in_ok-files.ensures.contract) c.in_ok-contract.ensures.contract in
+    let holds = sample-holds n tables contract c.deref-2.result.now c.in_ok-tables.ensures.told
+    (c.deref-2.ensures.value ∙ c.in_ok-files.ensures.contract) c.in_ok-contract.ensures.told in
     let tables_len : c.len.result ≡ length (sample_tables n)
     = c.len.ensures ∙ sym c.deref.ensures.len ∙ ap length (c.deref.ensures.value ∙ c.in_ok-files.ensures.tables) in
     let contract_len : c.len-2.result ≡ length (sample_contract n)
