@@ -144,6 +144,7 @@ impl Ival {
     }
 
     /// The product of two intervals that are not below 0, rounded outward. It counts one step.
+    #[inline(always)]
     pub fn mul<L: Ledger>(self, o: Ival, steps: &mut Steps<L>) -> Ival
         requires self_from { pos 0 ≤ℤ self.lo }
         requires self_in { self.hi ≤ℤ pos (10 ^ 33) }

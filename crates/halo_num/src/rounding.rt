@@ -11,6 +11,7 @@ use crate::wide::{chance_down, chance_up, divided_multiple, divided_product, par
 ///
 /// Most second factors are chances or discount factors, which are at most 1, and so are many of the
 /// first: their products take fewer steps.
+#[inline(always)]
 pub fn products_outward(a: (i128, i128), b: (i128, i128)) -> (i128, i128)
     requires a_from { pos 0 ≤ℤ a.0 }
     requires a_order { a.0 ≤ℤ a.1 }
@@ -33,6 +34,7 @@ pub fn products_outward(a: (i128, i128), b: (i128, i128)) -> (i128, i128)
 }
 
 /// The product of two numbers of fine units, in fine units, rounded down.
+#[inline(never)]
 fn product_down(a: i128, b: i128) -> i128
     requires a_from { pos 0 ≤ℤ a }
     requires a_in { a ≤ℤ pos (10 ^ 33) }
@@ -45,6 +47,7 @@ fn product_down(a: i128, b: i128) -> i128
 }
 
 /// The product of two numbers of fine units, in fine units, rounded up.
+#[inline(never)]
 fn product_up(a: i128, b: i128) -> i128
     requires a_from { pos 0 ≤ℤ a }
     requires a_in { a ≤ℤ pos (10 ^ 33) }
@@ -86,6 +89,7 @@ fn part_product_up(a: i128, b: i128) -> i128
 }
 
 /// The product of two numbers of fine units up to 1, in fine units, rounded down.
+#[inline(always)]
 fn chance_product_down(a: i128, b: i128) -> i128
     requires a_from { pos 0 ≤ℤ a }
     requires a_in { a ≤ℤ pos fine }
@@ -98,6 +102,7 @@ fn chance_product_down(a: i128, b: i128) -> i128
 }
 
 /// The product of two numbers of fine units up to 1, in fine units, rounded up.
+#[inline(always)]
 fn chance_product_up(a: i128, b: i128) -> i128
     requires a_from { pos 0 ≤ℤ a }
     requires a_in { a ≤ℤ pos fine }
