@@ -68,13 +68,17 @@ fn near_whole(units: u128) -> u128
 }
 
 /// A number divided by 10^18, rounded down.
+///
+/// Behind the near whole part less than 2 * 10^18 is left, so that it is at most 1 too small.
 fn whole_down(units: u128) -> u128
     requires small { units ≤ 2 * 10 ^ 36 + fine }
     ensures from { result * fine ≤ units }
     ensures near { units < (result + 1) * fine }
     ensures few { result ≤ 3 * 10 ^ 18 }
 {
-    divided_by_fine(units).whole
+    let near = near_whole(units);
+    let left = (units - near * FINE_UNITS) as u64;
+    if left < FINE_FACTOR { near } else { near + 1 }
 }
 
 /// A number divided by 10^18, rounded up.
