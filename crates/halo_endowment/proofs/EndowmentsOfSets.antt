@@ -160,14 +160,3 @@ are-survivals n g group t from alive b of_group entries enclosed i low =
       ← started-is g.file g.start (has_bit g.alive) g.lives i inside,
     ) (survival-each g t n entries enclosed i low) in
     rw of_group (life-survives n g group t i from low (alive i low) (entry_at entries i) chance)
-
--- what stays at one place and at all others stays everywhere
-pub stays : (old new : List Ends) (set : ℕ) → entry new set ≡ entry old set
-    → ((mask : ℕ) → mask ≢ set → entry new mask ≡ entry old mask) → (mask : ℕ) → entry new mask ≡ entry old mask
-stays old new set here others mask = ⊎_elim
-    (λ (before : mask < set). let other : mask ≢ set = omega arith in others mask other)
-    (λ (from : set ≤ mask). ⊎_elim
-    (λ (after : set < mask). let other : mask ≢ set = omega arith in others mask other)
-    (λ (upto : mask ≤ set). let same : mask ≡ set = omega arith in rw same here)
-    (cases_lt set mask))
-    (cases_lt mask set)

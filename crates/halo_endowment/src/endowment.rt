@@ -48,11 +48,11 @@ pub fn endowments<const N: usize, const M: usize, L: Ledger>(
     // The proof sees here that the lives have rows.
     let _start = group.start();
     let lives = survivals(group, t);
-    work.put(0, discount, work.minus(0));
+    work.put_plus(0, discount);
     let mut set = 0;
     while set != named {
         set = next_within(set, named);
         let endowment = with_first(&lives, set, work, steps);
-        work.put(set, endowment, work.minus(set));
+        work.put_plus(set, endowment);
     }
 }

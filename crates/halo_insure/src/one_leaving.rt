@@ -124,12 +124,12 @@ fn fallings<const N: usize, const M: usize, L: Ledger>(
     let others = without(task.pay.body.lives(), life);
     let lives = looked_at(&group, life, k);
     let leave = group.leave(life, k, task.pay.causes);
-    work.put(0, discount.mul(leave, steps), Ival::exact(0));
+    work.put_plus(0, discount.mul(leave, steps));
     let mut set = 0;
     while set != others {
         set = next_within(set, others);
         let falling = with_first(&lives, set, work, steps);
-        work.put(set, falling, Ival::exact(0));
+        work.put_plus(set, falling);
     }
 }
 
@@ -174,8 +174,11 @@ fn pay_leaving<const M: usize>(work: &mut Work<M>, year: &Year<M>, life: u8, set
     if !has_bit(set, life) {
         return;
     }
-    let falling = work.plus(without(set, life));
     let here = year.here.coefficient(set);
+    if here == 0 {
+        return;
+    }
+    let falling = work.plus(without(set, life));
     // No end of a term counts, so that of the next year is not asked for.
     let above = due_above(year.pays, here, here).on_leaving;
     let below = due_below(year.pays, here, here).on_leaving;

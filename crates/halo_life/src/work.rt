@@ -105,6 +105,19 @@ impl<const M: usize> Work<M> {
         self.minus[set as usize] = minus;
     }
 
+    /// Writes the entry of `plus` at a set, and leaves all else.
+    pub fn put_plus(&mut self, set: u16, plus: Ival)
+        requires { set < M }
+        ensures written { entry self.new.plus set ≡ plus }
+        ensures others { (mask : ℕ) → mask ≢ set →
+            entry self.new.plus mask ≡ entry self.old.plus mask }
+        ensures minus { self.new.minus ≡ self.old.minus }
+        ensures survivals { self.new.survivals ≡ self.old.survivals }
+        ensures leavings { self.new.leavings ≡ self.old.leavings }
+    {
+        self.plus[set as usize] = plus;
+    }
+
     /// The sum of `plus` less `minus` over the subsets of a set of lives. No other entry is read.
     pub fn total(&self, alive: u16) -> Ival
         requires few { M ≤ 2 ^ MOST_LIVES }

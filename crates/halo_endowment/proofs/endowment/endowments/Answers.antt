@@ -2,29 +2,29 @@ use Rattle.std.proofs.Common.{◌≡◌, ◌+◌, ◌<◌, ◌≤◌, ◌^◌, �
 use Rattle.std.proofs.Math.Nat.{pow-le-pow_right}
 use Rattle.halo_sums.proofs.Within.{within-below}
 use Rattle.halo_num.specs.Ends.{IsWithin, fine}
+use Rattle.halo_life.specs.Lists.{entry}
 use Rattle.halo_life.proofs.Filled.{filled-before, filled-next}
 use Rattle.halo_life.proofs.Within.{one-set-more, sets-up-to}
 use Rattle.halo_life.proofs.YearChances.{length-lives}
 use Rattle.halo_endowment.specs.Endowment.{EnclosesEndowment}
-use Rattle.halo_endowment.proofs.EndowmentsOfSets.{are-survivals, endowment-by-first, endowment-of-nobody, stays}
+use Rattle.halo_endowment.proofs.EndowmentsOfSets.{are-survivals, endowment-by-first, endowment-of-nobody}
 use Rattle.halo_endowment.proofs.endowment.endowments.Goals as goal
 
 pub loop-set-init : goal.loop-set-init
 loop-set-init g c =
     let now = c.args.group.now in
-    let put = c.put.ensures in
+    let put = c.put_plus.ensures in
     record {
       within = refl;
       inside = λ mask below within.
           let here : mask ≡ 0 = omega arith in
-          rw (here, put.plus) c.requires.discount;
+          rw (here, put.written) c.requires.discount;
       sets = λ b of_group power mask below within.
           let here : mask ≡ 0 = omega arith in
-          rw (here, put.plus) (endowment-of-nobody b g.row.N now.start c.args.t
+          rw (here, put.written) (endowment-of-nobody b g.row.N now.start c.args.t
           (ap (λ lives. length lives) of_group ∙ length-lives g.row.N now c.start-start.ensures.group)
           c.args.discount power);
-      minus = stays c.args.work.now.minus c.put.new.self.minus 0 (put.minus ∙ c.minus.ensures)
-          (λ mask other. (put.others mask other).1);
+      minus = λ mask. ap (λ list. entry list mask) put.minus;
       cost = omega arith;
     }
 
@@ -59,13 +59,13 @@ loop-set-preserved g c =
     let i = c.loop-set.invariant in
     let set = c.loop-set.set in
     let next = c.next_within-set.ensures in
-    let put = c.put-in-loop-set.ensures in
+    let put = c.put_plus-in-loop-set.ensures in
     let first = c.with_first-endowment.ensures in
     record {
       within = next.within;
       inside = filled-next (λ mask i. IsWithin i (pos 0) (pos fine)) c.args.named set c.next_within-set.result
-          next.later next.next c.loop-set.work.plus c.put-in-loop-set.new.self.plus c.with_first-endowment.result
-          i.inside first.within put.plus (λ mask other. (put.others mask other).0);
+          next.later next.next c.loop-set.work.plus c.put_plus-in-loop-set.new.self.plus c.with_first-endowment.result
+          i.inside first.within put.written put.others;
       sets = λ b of_group power.
           let IsChance = EnclosesEndowment b n now.start c.args.t in
           let before = i.sets b of_group power in
@@ -83,10 +83,9 @@ loop-set-preserved g c =
           ))
           c.survivals-lives.result c.loop-set.work.plus c.with_first-endowment.result first.product are smaller in
           filled-next IsChance c.args.named set c.next_within-set.result next.later next.next
-          c.loop-set.work.plus c.put-in-loop-set.new.self.plus c.with_first-endowment.result
-          before endowment put.plus (λ mask other. (put.others mask other).0);
-      minus = λ mask. stays c.loop-set.work.minus c.put-in-loop-set.new.self.minus c.next_within-set.result
-          (put.minus ∙ c.minus-in-loop-set.ensures) (λ mask other. (put.others mask other).1) mask ∙ i.minus mask;
+          c.loop-set.work.plus c.put_plus-in-loop-set.new.self.plus c.with_first-endowment.result
+          before endowment put.written put.others;
+      minus = λ mask. ap (λ list. entry list mask) put.minus ∙ i.minus mask;
       cost = omega (
         arith,
         first.cost,

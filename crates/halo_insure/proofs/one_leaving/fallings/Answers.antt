@@ -1,4 +1,4 @@
-use Rattle.std.proofs.Common.{◌≡◌, ◌≢◌, ℕ, suc, ◌+◌, ◌-◌, ◌^◌, ◌<◌, ◌≤◌, ◌∙◌, Bool, true, false, arith, lit<, refl, sym, subst}
+use Rattle.std.proofs.Common.{◌≡◌, ◌≢◌, ℕ, suc, ◌+◌, ◌-◌, ◌^◌, ◌<◌, ◌≤◌, ◌∙◌, Bool, true, false, ap, arith, lit<, refl, sym, subst}
 use Rattle.std.proofs.Math.Nat.{pow-le-pow_right}
 use Rattle.halo_sums.specs.Masks.{bits, has_bit}
 use Rattle.halo_sums.specs.Sets.{size_of}
@@ -7,6 +7,7 @@ use Rattle.halo_status.specs.Pay.{pay_of}
 use Rattle.halo_model.specs.Chance.{asked}
 use Rattle.halo_model.specs.FromTables.{lives_of}
 use Rattle.halo_along.proofs.ByParts.{falling-named}
+use Rattle.halo_life.specs.Lists.{entry}
 use Rattle.halo_life.proofs.Filled.{filled-before, filled-next}
 use Rattle.halo_life.proofs.OneSet.{size-with}
 use Rattle.halo_life.proofs.Subsets.{bit-most}
@@ -43,8 +44,8 @@ without-others-requires g c =
     c.lives.ensures c.args.life ∙ falling-named (pay_of_task task) c.args.life c.requires.falls in
     record { few = omega (arith, c.requires.life, c.start.ensures.group.few); within = on }
 
-pub put-requires : goal.put-requires
-put-requires g c =
+pub put_plus-requires : goal.put_plus-requires
+put_plus-requires g c =
     let body = (pay_of c.args.task.now.pay.now).body in
     let named = all-named c.lives.result body c.lives.ensures in
     let below = set-below c.args.task.now c.requires.task c.lives.result named in
@@ -54,7 +55,7 @@ pub loop-set-init : goal.loop-set-init
 loop-set-init g c =
     let task = c.args.task.now in
     let b = insured_basis task in
-    let put = c.put.ensures in
+    let put = c.put_plus.ensures in
     let at = c.at-group.ensures in
     let n = g.row.N in
     let T = task.group.now.start in
@@ -75,8 +76,9 @@ loop-set-init g c =
       within = refl;
       sets = λ mask below within.
           let here : mask ≡ 0 = omega arith in
-          rw (here, put.plus) alone;
-      rest = λ mask on. put.others mask (apart mask 0 life (nobody-off life) on);
+          rw (here, put.written) alone;
+      rest = λ mask on.
+          (put.others mask (apart mask 0 life (nobody-off life) on), ap (λ list. entry list mask) put.minus);
       cost = omega (arith, c.mul.ensures.cost);
     }
 
@@ -116,8 +118,8 @@ loop-set-smaller g c =
     let next = c.next_within-set.ensures in
     omega (arith, next.later, within-below c.next_within-set.result c.without-others.result next.within)
 
-pub put-requires-in-loop-set : goal.put-requires-in-loop-set
-put-requires-in-loop-set g c =
+pub put_plus-requires-in-loop-set : goal.put_plus-requires-in-loop-set
+put_plus-requires-in-loop-set g c =
     let body = (pay_of c.args.task.now.pay.now).body in
     let named = all-named c.lives.result body c.lives.ensures in
     let below = set-below c.args.task.now c.requires.task c.lives.result named in
@@ -141,7 +143,7 @@ loop-set-preserved g c =
     let causes = asked (pay_of_task task).causes in
     let others = c.without-others.ensures in
     let next = c.next_within-set.ensures in
-    let put = c.put-in-loop-set.ensures in
+    let put = c.put_plus-in-loop-set.ensures in
     let at = c.at-group.ensures in
     let on : has_bit c.lives.result life ≡ true =
     c.lives.ensures life ∙ falling-named (pay_of_task task) life c.requires.falls in
@@ -169,11 +171,11 @@ loop-set-preserved g c =
     record {
       within = next.within;
       sets = filled-next IsChance c.without-others.result set c.next_within-set.result next.later next.next
-          c.loop-set.work.plus c.put-in-loop-set.new.self.plus c.with_first-falling.result
-          i.sets falling put.plus (λ mask other. (put.others mask other).0);
+          c.loop-set.work.plus c.put_plus-in-loop-set.new.self.plus c.with_first-falling.result
+          i.sets falling put.written put.others;
       rest = λ mask with.
           let now = put.others mask (apart mask c.next_within-set.result life off with) in
-          let rest = i.rest mask with in (now.0 ∙ rest.0, now.1 ∙ rest.1);
+          let rest = i.rest mask with in (now ∙ rest.0, ap (λ list. entry list mask) put.minus ∙ rest.1);
       cost = omega (
         arith,
         c.with_first-falling.ensures.cost,
